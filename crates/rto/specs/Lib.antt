@@ -1,0 +1,6 @@
+pub mod Timer
+pub mod Calls
+pub mod Fractions
+pub mod Exact
+pub mod Demand
+pub mod Vectors
