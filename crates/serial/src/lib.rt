@@ -14,6 +14,12 @@ pub struct Seq(pub u32);
 // A timestamp.
 pub struct Stamp(pub u32);
 
+// The sequence numbers from `left` up to `right`, which is not among them: a range that is held, or a block of a SACK option.
+pub struct Range {
+    pub left: Seq,
+    pub right: Seq,
+}
+
 impl Seq {
     // The distance from `self` to `to`, from -2^31 to 2^31 - 1.
     pub fn distance(self, to: Seq) -> i32

@@ -1,0 +1,4 @@
+mod Parts
+mod Past
+pub mod ReadBack
+pub mod Stores

@@ -1,0 +1,67 @@
+-- What the contracts of private functions cite: where the known options stand, as the reader notes it while the rules run, and how far a
+-- step reaches. No promise of the crate rests on these.
+use Prim.Native.Nat.{ℕ, _+_, _≤_, _<_}
+use mathlib.Core.Bool.{Bool, cond, not, _&&_}
+use mathlib.Core.List.{List, _++_}
+use mathlib.Core.Path.{_≡_}
+use lib.Dec.{eqb}
+use lib.ListN.{drop, getD, length, take}
+use Rattle.segment.specs.Grammar.{Step, paddingRule}
+use Rattle.segment.specs.Options.{Found, faultIn, found, nothing, optionIn, optionOf, standsIn}
+use Rattle.segment.specs.Reading.{numberOf}
+use Rattle.segment.specs.declared.places.Places.{Places}
+use Rattle.segment.specs.declared.rules.Listing.{Listing}
+
+-- the place of an option, 0 where there is none
+abbrev pub placeOf : Found → ℕ
+placeOf nothing = 0
+placeOf (found place octets) = place
+
+abbrev pub placesOf : List Step → Places
+placesOf steps = record {
+  mss = placeOf (optionOf 2 steps);
+  scale = placeOf (optionOf 3 steps);
+  permitted = placeOf (optionOf 4 steps);
+  sack = placeOf (optionOf 5 steps);
+  timestamps = placeOf (optionOf 8 steps);
+}
+
+-- the places of the known options among some steps, no option of which stands at place 0
+pub record Noted (steps : List Step) (places : Places) : Type 0 where
+  pub are : places ≡ placesOf steps
+  pub past-start : (kinds octets : List ℕ) → optionIn kinds steps ≡ found 0 octets → ⊥
+
+-- what the rules make of some steps that follow others: the places of all, or the first fault
+abbrev pub Outcome : List Step → List Step → Listing → Type 0
+Outcome before steps (Listing.Listed places) = (faultIn before steps ≡ 0) × Noted (before ++ steps) places
+Outcome before steps (Listing.Refused why) = faultIn before steps ≡ numberOf why
+
+-- an option of at least n octets lies in the segment at its place, and counts its own length
+pub record Stands (s : List ℕ) (n place : ℕ) (octets : List ℕ) : Type 0 where
+  pub past-start : 0 < place
+  pub least : n ≤ length octets
+  pub counted : getD octets 1 0 ≡ length octets
+  pub there : (k : ℕ) → k < length octets → getD octets k 0 ≡ getD s (place + k) 0
+
+-- the same, if there is an option
+abbrev pub StandsIf : List ℕ → ℕ → Found → Type 0
+StandsIf s n f = (place : ℕ) (octets : List ℕ) → f ≡ found place octets → Stands s n place octets
+
+-- the same of each option that has a value, with its kind's least length
+pub record StandAll (s : List ℕ) (steps : List Step) : Type 0 where
+  pub mss : StandsIf s 4 (optionOf 2 steps)
+  pub scale : StandsIf s 3 (optionOf 3 steps)
+  pub sack : StandsIf s 10 (optionOf 5 steps)
+  pub timestamps : StandsIf s 10 (optionOf 8 steps)
+
+-- a step that does not end the list is an option that a list of kinds asks for, by its kind
+abbrev pub isListed : List ℕ → ℕ → Bool
+isListed kinds kind = not (eqb kind 1) && standsIn kind kinds
+
+-- a step of n octets at a place: 1 for a NOP, an option's length, and 0 where the list ends or the option is broken
+pub record Reaches (header : List ℕ) (at n : ℕ) : Type 0 where
+  pub within : at + n ≤ length header
+  pub finds : (kinds : List ℕ) → optionIn kinds (paddingRule at (drop at header))
+      ≡ cond (eqb n 0) nothing
+      (cond (isListed kinds (getD header at 0)) (found at (take n (drop at header)))
+      (optionIn kinds (paddingRule (at + n) (drop (at + n) header))))

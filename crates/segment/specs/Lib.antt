@@ -1,0 +1,9 @@
+pub mod Grammar
+pub mod Options
+pub mod Reading
+pub mod Readable
+pub mod Part
+pub mod Internal
+pub mod Vectors
+pub mod FieldVectors
+pub mod FoundVectors

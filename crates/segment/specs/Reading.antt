@@ -1,0 +1,111 @@
+-- Reading a segment (document 01, "Reading a segment" and "Numbers given when work is declined").
+use Prim.Native.Nat.{ℕ, _+_, _-_, _*_, _/_, _%_, _^_}
+use mathlib.Core.Bool.{Bool, cond, _||_}
+use mathlib.Core.List.{List, []}
+use mathlib.Core.Option.{Option, none, some, Option·map}
+use lib.Dec.{eqb, ltb}
+use lib.ListN.{drop, getD, length, take}
+use Rattle.octets.specs.Octets.{numberAt}
+use Rattle.segment.specs.Grammar.{Step, paddingRule}
+use Rattle.segment.specs.Options.{Found, faultIn, nothing, optionIn, optionsOf}
+use Rattle.segment.specs.declared.Flags.{Flags}
+use Rattle.segment.specs.declared.Options.{Options}
+use Rattle.segment.specs.declared.Reading.{Reading}
+use Rattle.segment.specs.declared.Refusal.{Refusal}
+use Rattle.segment.specs.declared.Segment.{Segment}
+
+-- an answer in document 01's terms: 0 and what was read, or the refusal's number alone
+pub record Answer (A : Type 0) : Type 0 where
+  pub number : ℕ
+  pub fields : Option A
+
+abbrev pub readAs : {A : Type 0} → A → Answer A
+readAs a = record { number = 0; fields = some a }
+
+abbrev pub refused : {A : Type 0} → ℕ → Answer A
+refused n = record { number = n; fields = none }
+
+-- what was read, as part of more; a refusal stays
+abbrev pub withFields : {A B : Type 0} → (A → B) → Answer A → Answer B
+withFields f a = record { number = a .number; fields = Option·map f (a .fields) }
+
+-- document 01's number of each refusal
+abbrev pub numberOf : Refusal → ℕ
+numberOf Refusal.TooShort = 1
+numberOf Refusal.TooLong = 2
+numberOf Refusal.BadDataOffset = 3
+numberOf Refusal.BrokenOption = 4
+numberOf Refusal.WrongOptionLength = 5
+numberOf Refusal.RepeatedOption = 6
+
+-- the same of each case of the answer that the code gives
+abbrev pub shown : Reading → Answer Segment
+shown (Reading.Segment segment) = readAs segment
+shown (Reading.Refused why) = refused (numberOf why)
+
+-- the options of the steps, or the first fault's number
+unfoldable pub optionsRead : List Step → Answer Options
+optionsRead steps =
+    let fault = faultIn [] steps in
+    cond (eqb fault 0) (readAs (optionsOf steps)) (refused fault)
+
+-- the high half of octet 12, in 4-octet units
+abbrev pub dataOffset : List ℕ → ℕ
+dataOffset s = getD s 12 0 / 16
+
+-- the octets from 20 to 4 x offset
+abbrev pub optionOctets : List ℕ → List ℕ
+optionOctets s = drop 20 (take (4 * dataOffset s) s)
+
+-- the steps of its options
+abbrev pub stepsOf : List ℕ → List Step
+stepsOf s = paddingRule 20 (optionOctets s)
+
+-- whether bit n is set
+abbrev pub bit : ℕ → ℕ → Bool
+bit n octet = eqb (octet / 2 ^ n % 2) 1
+
+-- from bit 7: CWR ECE URG ACK PSH RST SYN FIN
+abbrev pub flagsOf : ℕ → Flags
+flagsOf octet = record {
+  cwr = bit 7 octet;
+  ece = bit 6 octet;
+  urg = bit 5 octet;
+  ack = bit 4 octet;
+  psh = bit 3 octet;
+  rst = bit 2 octet;
+  syn = bit 1 octet;
+  fin = bit 0 octet;
+}
+
+-- payload octets, plus 1 for SYN, plus 1 for FIN
+abbrev pub lenOf : ℕ → Flags → ℕ
+lenOf payload flags = payload + cond (flags .syn) 1 0 + cond (flags .fin) 1 0
+
+-- the fields of a segment whose header ends at `end`
+unfoldable pub segmentOf : List ℕ → ℕ → Options → Segment
+segmentOf s end options = record {
+  source = numberAt 2 s 0;
+  destination = numberAt 2 s 2;
+  seq = record { 0 = numberAt 4 s 4 };
+  ack = record { 0 = numberAt 4 s 8 };
+  flags = flagsOf (getD s 13 0);
+  window = numberAt 2 s 14;
+  urgent = numberAt 2 s 18;
+  options = options;
+  payload = record { start = end; length = length s - end };
+  len = lenOf (length s - end) (flagsOf (getD s 13 0));
+}
+
+-- E1, E2, E3 in this order, then the options from left to right
+unfoldable pub reading : List ℕ → Answer Segment
+reading s =
+    let byOptions = withFields (segmentOf s (4 * dataOffset s)) (optionsRead (stepsOf s)) in
+    cond (ltb (length s) 20) (refused 1)
+    (cond (ltb 65535 (length s)) (refused 2)
+    (cond (ltb (dataOffset s) 5 || ltb (length s) (4 * dataOffset s)) (refused 3)
+    byOptions))
+
+-- the first option whose kind stands in the list, in a segment that is not refused
+unfoldable pub foundOption : List ℕ → List ℕ → Found
+foundOption s kinds = cond (eqb (reading s .number) 0) (optionIn kinds (stepsOf s)) nothing

@@ -1,0 +1,167 @@
+// Reading a TCP segment: header, options and where the payload lies. The octets may be any.
+mod finding;
+mod header;
+mod kinds;
+mod places;
+mod rules;
+mod values;
+
+ghost use mathlib.Core.Path.{_≡_};
+ghost use denote.Ref.{ptr};
+ghost use Rattle.segment.specs.Part.{IsPart};
+ghost use Rattle.segment.specs.Reading.{foundOption, numberOf, reading, shown};
+use rules::Listing;
+use serial::Range;
+use serial::Seq;
+use serial::Stamp;
+
+// The least octets of a segment: the header without options.
+const FIXED_HEADER: usize = 20;
+
+// The most octets of a segment.
+const MAX_SEGMENT: usize = 65_535;
+
+// The flags of octet 13, from its highest bit.
+pub struct Flags {
+    pub cwr: bool,
+    pub ece: bool,
+    pub urg: bool,
+    pub ack: bool,
+    pub psh: bool,
+    pub rst: bool,
+    pub syn: bool,
+    pub fin: bool,
+}
+
+// The maximum segment size, in octets.
+pub enum Mss {
+    Absent,
+    Octets(u16),
+}
+
+// The window scale option, as the peer wrote it: a shift above 14 too.
+pub enum WindowScale {
+    Absent,
+    Shift(u8),
+}
+
+// TSval and TSecr, in this order.
+pub enum Timestamps {
+    Absent,
+    Pair(Stamp, Stamp),
+}
+
+// The blocks of a SACK option, in their order.
+pub enum SackBlocks {
+    Absent,
+    One(Range),
+    Two(Range, Range),
+    Three(Range, Range, Range),
+    Four(Range, Range, Range, Range),
+}
+
+// What the options of a segment say.
+pub struct Options {
+    pub mss: Mss,
+    pub scale: WindowScale,
+    // Whether SACK-permitted is among them.
+    pub permitted: bool,
+    pub blocks: SackBlocks,
+    pub timestamps: Timestamps,
+}
+
+// Where the payload lies in the segment.
+pub struct Payload {
+    pub start: usize,
+    pub length: u32,
+}
+
+// A segment that can be read.
+pub struct Segment {
+    // The ports.
+    pub source: u16,
+    pub destination: u16,
+    pub seq: Seq,
+    pub ack: Seq,
+    pub flags: Flags,
+    pub window: u16,
+    pub urgent: u16,
+    pub options: Options,
+    pub payload: Payload,
+    // LEN: the payload's octets, plus 1 for SYN, plus 1 for FIN.
+    pub len: u32,
+}
+
+// Why a segment is refused: E1 to E6, in this order.
+pub enum Refusal {
+    TooShort,
+    TooLong,
+    BadDataOffset,
+    BrokenOption,
+    WrongOptionLength,
+    RepeatedOption,
+}
+
+impl Refusal {
+    // The refusal's number, 1 to 6.
+    pub fn number(self) -> u8
+        ensures { λ r. ⌜ r ≡ numberOf self ⌝ }
+    {
+        match self {
+            Refusal::TooShort => 1,
+            Refusal::TooLong => 2,
+            Refusal::BadDataOffset => 3,
+            Refusal::BrokenOption => 4,
+            Refusal::WrongOptionLength => 5,
+            Refusal::RepeatedOption => 6,
+        }
+    }
+}
+
+pub enum Reading {
+    Segment(Segment),
+    Refused(Refusal),
+}
+
+// Reads a segment, or says why it is refused: E1, E2, E3, then the options from left to right.
+pub fn read(segment: &[u8]) -> Reading
+    ensures { λ r. ⌜ shown r ≡ reading (now (segment .entry)) ⌝ }
+{
+    if segment.len() < FIXED_HEADER {
+        return Reading::Refused(Refusal::TooShort);
+    }
+    if MAX_SEGMENT < segment.len() {
+        return Reading::Refused(Refusal::TooLong);
+    }
+    let end = header::end(segment);
+    if end < FIXED_HEADER {
+        return Reading::Refused(Refusal::BadDataOffset);
+    }
+    if segment.len() < end {
+        return Reading::Refused(Refusal::BadDataOffset);
+    }
+    let listing = rules::padding_rule(&segment[0..end], FIXED_HEADER, places::none());
+    match listing {
+        Listing::Listed(places) => {
+            let options = values::options(segment, places);
+            Reading::Segment(header::fields(segment, end, options))
+        }
+        Listing::Refused(why) => Reading::Refused(why),
+    }
+}
+
+// The first option whose kind stands in `kinds`, as that part of the segment, kind and length octets included. The part is empty where
+// there is none, or where the segment is refused.
+pub fn find_option<'a>(segment: &'a [u8], kinds: &[u8]) -> &'a [u8]
+    ensures { λ r. ⌜ IsPart r (ptr (segment .entry)) (foundOption (now (segment .entry)) (now (kinds .entry))) ⌝ }
+{
+    let reading = read(segment);
+    match reading {
+        Reading::Refused(_) => &segment[0..0],
+        Reading::Segment(whole) => {
+            let payload = whole.payload;
+            let end = payload.start;
+            finding::first_listed(&segment[0..end], kinds)
+        }
+    }
+}
