@@ -13,7 +13,7 @@ unfolding bigEndian
 length-bigEndian zero n = refl
 length-bigEndian (suc w) n = ap suc (length-bigEndian w (n % 256 ^ w))
 
--- what stands in front of a place, and what follows the number, does not matter to it
+-- what stands in front of a place does not matter to the number there
 numberAt-after : (w at : ℕ) (x : ℕ) (octets : List ℕ) → numberAt w (x ∷ octets) (suc at) ≡ numberAt w octets at
 unfolding numberAt
 numberAt-after zero at x octets = refl

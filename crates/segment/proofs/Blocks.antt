@@ -39,9 +39,9 @@ module _ (octets : List ℕ) where
       rw more
 
 -- a block of the option is the one in the segment
-pub block-there : {s : List ℕ} {n place : ℕ} {octets : List ℕ} → Stands s n place octets → (i : ℕ) → i + 8 ≤ length octets
+pub block-there : {s : List ℕ} {kind n place : ℕ} {octets : List ℕ} → Stands s kind n place octets → (i : ℕ) → i + 8 ≤ length octets
     → blockAt s (place + i) ≡ blockAt octets i
-block-there {s} {n} {place} {octets} st i h =
+block-there {s} {kind} {n} {place} {octets} st i h =
     let left : numberAt 4 s (place + i) ≡ numberAt 4 octets i = number-there st 4 i (omega arith) in
     let right : numberAt 4 s (place + i + 4) ≡ numberAt 4 octets (i + 4) =
     ap (numberAt 4 s) (add-assoc place i 4) ∙ number-there st 4 (i + 4) (omega arith) in

@@ -16,18 +16,18 @@ use Rattle.segment.specs.Reading.{dataOffset, stepsOf}
 use Rattle.segment.proofs.Inside.{in-segment, none-found, octetsOf}
 
 -- A place that is 0 is that of no option, and any other that of one.
-module _ (s : List ℕ) (n place : ℕ) (f : Found) (e : place ≡ placeOf f) (stands : StandsIf s n f) where
+module _ (s : List ℕ) (kind n place : ℕ) (f : Found) (e : place ≡ placeOf f) (stands : StandsIf s kind n f) where
   pub none-there : place ≡ 0 → f ≡ nothing
   none-there z = go f refl
     where
       go : (g : Found) → f ≡ g → f ≡ nothing
       go nothing same = same
-      go (found at octets) same = absurd (omega (arith, stands at octets same .past-start, e, ap placeOf same))
+      go (found at octets) same = absurd (omega (arith, stands at octets same .inside .after-header, e, ap placeOf same))
 
-  pub one-there : (place ≡ 0 → ⊥) → (octets : List ℕ) × (f ≡ found place octets) × Stands s n place octets
+  pub one-there : (place ≡ 0 → ⊥) → (octets : List ℕ) × (f ≡ found place octets) × Stands s kind n place octets
   one-there some = go f refl
     where
-      go : (g : Found) → f ≡ g → (octets : List ℕ) × (f ≡ found place octets) × Stands s n place octets
+      go : (g : Found) → f ≡ g → (octets : List ℕ) × (f ≡ found place octets) × Stands s kind n place octets
       go nothing same = absurd (some (e ∙ ap placeOf same))
       go (found at octets) same =
           let here : f ≡ found place octets = same ∙ ap (λ (k : ℕ). found k octets) (sym (e ∙ ap placeOf same)) in
@@ -43,12 +43,12 @@ noted-found (found at octets) p = go (eqb at 0) refl
     go false z = refl
 
 -- a number of an option is the one in the segment
-pub number-there : {s : List ℕ} {n place : ℕ} {octets : List ℕ} → Stands s n place octets → (w i : ℕ) → i + w ≤ length octets
+pub number-there : {s : List ℕ} {kind n place : ℕ} {octets : List ℕ} → Stands s kind n place octets → (w i : ℕ) → i + w ≤ length octets
     → numberAt w s (place + i) ≡ numberAt w octets i
 unfolding numberAt
 number-there st zero i h = refl
-number-there {s} {n} {place} {octets} st (suc w) i h =
-    let octet : getD s (place + i) 0 ≡ getD octets i 0 = sym (st .there i (omega arith)) in
+number-there {s} {kind} {n} {place} {octets} st (suc w) i h =
+    let octet : getD s (place + i) 0 ≡ getD octets i 0 = sym (st .inside .octets-there i (omega arith)) in
     let lower : numberAt w s (suc (place + i)) ≡ numberAt w octets (suc i) =
     ap (numberAt w s) (sym (add-suc place i)) ∙ number-there st w (suc i) (omega arith) in
     λ j. octet j * 256 ^ w + lower j
@@ -106,16 +106,13 @@ from-least least n (x ∷ xs) a s = go (leb least x) refl (eqb n x) refl a s (fr
 
 -- Each option that has a value stands in the segment.
 module _ (s : List ℕ) (five : 5 ≤ dataOffset s) (none : faultIn [] (stepsOf s) ≡ 0) where
-  stands : (k least : ℕ) → isKnown k ≡ true → allFrom least (lengthsOf k knownKinds) ≡ true → StandsIf s least (optionOf k (stepsOf s))
+  stands : (k least : ℕ) → isKnown k ≡ true → allFrom least (lengthsOf k knownKinds) ≡ true → StandsIf s k least (optionOf k (stepsOf s))
   unfolding isWrongLength
   stands k least known from place octets e =
-      let lies = in-segment (k ∷ []) s place octets five e in
       let right = rw known at (right-length k [] (stepsOf s) none place octets e) in
       record {
-        past-start = omega (arith, lies .after-header);
+        inside = in-segment (k ∷ []) s place octets five e;
         least = from-least least (length octets) (lengthsOf k knownKinds) from (not-false _ right);
-        counted = lies .length-counted;
-        there = lies .octets-there;
       }
 
   pub stand-all : StandAll s (stepsOf s)

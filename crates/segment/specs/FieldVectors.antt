@@ -53,7 +53,7 @@ says mss scale permitted blocks timestamps = record { mss = mss; scale = scale; 
 none : Options
 none = says Mss.Absent WindowScale.Absent false SackBlocks.Absent Timestamps.Absent
 
--- MSS 258, shift 15, SACK-permitted, TSval 185,339,150 and TSecr 353,769,240
+-- what one option says, or all but SACK: MSS 258, shift 15, SACK-permitted, TSval 185,339,150 with TSecr 353,769,240
 withMss : Options
 withMss = says (Mss.Octets 258) WindowScale.Absent false SackBlocks.Absent Timestamps.Absent
 
@@ -75,7 +75,7 @@ withBlocks blocks = says Mss.Absent WindowScale.Absent false blocks Timestamps.A
 withAll : Options
 withAll = says (Mss.Octets 258) (WindowScale.Shift 15) true SackBlocks.Absent stamps
 
--- the octets of the last
+-- the octets of all but SACK
 all : List ℕ
 all = 2 ∷ 4 ∷ 1 ∷ 2 ∷ 4 ∷ 2 ∷ 8 ∷ 10 ∷ 11 ∷ 12 ∷ 13 ∷ 14 ∷ 21 ∷ 22 ∷ 23 ∷ 24 ∷ 1 ∷ 3 ∷ 3 ∷ 15 ∷ []
 

@@ -1,14 +1,15 @@
 -- What the contracts of private functions cite: where the known options stand, as the reader notes it while the rules run, and how far a
 -- step reaches. No promise of the crate rests on these.
-use Prim.Native.Nat.{ℕ, _+_, _≤_, _<_}
+use Prim.Native.Nat.{ℕ, _+_, _≤_}
 use mathlib.Core.Bool.{Bool, cond, not, _&&_}
-use mathlib.Core.List.{List, _++_}
+use mathlib.Core.List.{List, [], _∷_, _++_}
 use mathlib.Core.Path.{_≡_}
 use lib.Dec.{eqb}
 use lib.ListN.{drop, getD, length, take}
 use Rattle.segment.specs.Grammar.{Step, paddingRule}
 use Rattle.segment.specs.Options.{Found, faultIn, found, nothing, optionIn, optionOf, standsIn}
 use Rattle.segment.specs.Reading.{numberOf}
+use Rattle.segment.specs.Part.{Inside}
 use Rattle.segment.specs.declared.places.Places.{Places}
 use Rattle.segment.specs.declared.rules.Listing.{Listing}
 
@@ -36,23 +37,21 @@ abbrev pub Outcome : List Step → List Step → Listing → Type 0
 Outcome before steps (Listing.Listed places) = (faultIn before steps ≡ 0) × Noted (before ++ steps) places
 Outcome before steps (Listing.Refused why) = faultIn before steps ≡ numberOf why
 
--- an option of at least n octets lies in the segment at its place, and counts its own length
-pub record Stands (s : List ℕ) (n place : ℕ) (octets : List ℕ) : Type 0 where
-  pub past-start : 0 < place
+-- an option of the segment, of this kind and of at least n octets
+pub record Stands (s : List ℕ) (kind n place : ℕ) (octets : List ℕ) : Type 0 where
+  pub inside : Inside s (kind ∷ []) place octets
   pub least : n ≤ length octets
-  pub counted : getD octets 1 0 ≡ length octets
-  pub there : (k : ℕ) → k < length octets → getD octets k 0 ≡ getD s (place + k) 0
 
--- the same, if there is an option
-abbrev pub StandsIf : List ℕ → ℕ → Found → Type 0
-StandsIf s n f = (place : ℕ) (octets : List ℕ) → f ≡ found place octets → Stands s n place octets
+-- the same of what is found, if anything is
+abbrev pub StandsIf : List ℕ → ℕ → ℕ → Found → Type 0
+StandsIf s kind n f = (place : ℕ) (octets : List ℕ) → f ≡ found place octets → Stands s kind n place octets
 
 -- the same of each option that has a value, with its kind's least length
 pub record StandAll (s : List ℕ) (steps : List Step) : Type 0 where
-  pub mss : StandsIf s 4 (optionOf 2 steps)
-  pub scale : StandsIf s 3 (optionOf 3 steps)
-  pub sack : StandsIf s 10 (optionOf 5 steps)
-  pub timestamps : StandsIf s 10 (optionOf 8 steps)
+  pub mss : StandsIf s 2 4 (optionOf 2 steps)
+  pub scale : StandsIf s 3 3 (optionOf 3 steps)
+  pub sack : StandsIf s 5 10 (optionOf 5 steps)
+  pub timestamps : StandsIf s 8 10 (optionOf 8 steps)
 
 -- a step that does not end the list is an option that a list of kinds asks for, by its kind
 abbrev pub isListed : List ℕ → ℕ → Bool

@@ -38,7 +38,7 @@ numberOf Refusal.BrokenOption = 4
 numberOf Refusal.WrongOptionLength = 5
 numberOf Refusal.RepeatedOption = 6
 
--- the same of each case of the answer that the code gives
+-- the number and the fields of each case of the answer that the code gives
 abbrev pub shown : Reading → Answer Segment
 shown (Reading.Segment segment) = readAs segment
 shown (Reading.Refused why) = refused (numberOf why)

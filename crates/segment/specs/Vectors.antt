@@ -1,8 +1,10 @@
 -- The number that each of some segments is answered with, beside what it should be, under one statement: M6 and M7 of document 01, both
--- sides of the limit of each of E1 to E6, and their order.
-use Prim.Native.Nat.{ℕ, _+_, _-_, _*_, _/_}
+-- sides of the limit of each of E1 to E6, and their order; then every known kind and its lengths.
+use Prim.Native.Nat.{ℕ, zero, suc, _+_, _-_, _*_, _/_}
+use mathlib.Core.Bool.{Bool, cond, not}
 use mathlib.Core.List.{List, [], _∷_, _++_, map}
 use mathlib.Core.Path.{_≡_, refl}
+use lib.Dec.{eqb}
 use lib.ListN.{length, replicate}
 use Rattle.octets.specs.Octets.{numberAt}
 use Rattle.segment.specs.Grammar.{isBroken, padding, paddingRule}
@@ -66,31 +68,17 @@ numbers =
     ∷ (number (254 ∷ 5 ∷ 0 ∷ 0 ∷ []), 4)
     ∷ (reading (segment 96 (254 ∷ 5 ∷ 0 ∷ 0 ∷ 0 ∷ [])) .number, 4)
     ∷ (number (option 254 40), 0)
-    -- E5: the lengths of each known kind, and those beside them
+    -- E5: on both sides of a length; the table below has every length of every known kind
     ∷ (number (option 2 3), 5)
     ∷ (number (option 2 4), 0)
     ∷ (number (option 2 5), 5)
-    ∷ (number (option 3 2), 5)
-    ∷ (number (option 3 3), 0)
-    ∷ (number (option 3 4), 5)
-    ∷ (number (option 4 2), 0)
-    ∷ (number (option 4 3), 5)
     ∷ (number (option 5 2), 5)
     ∷ (number (option 5 9), 5)
     ∷ (number (option 5 10), 0)
     ∷ (number (option 5 11), 5)
-    ∷ (number (option 5 17), 5)
-    ∷ (number (option 5 18), 0)
-    ∷ (number (option 5 19), 5)
-    ∷ (number (option 5 25), 5)
-    ∷ (number (option 5 26), 0)
-    ∷ (number (option 5 27), 5)
     ∷ (number (option 5 33), 5)
     ∷ (number (option 5 34), 0)
     ∷ (number (option 5 35), 5)
-    ∷ (number (option 8 9), 5)
-    ∷ (number (option 8 10), 0)
-    ∷ (number (option 8 11), 5)
     -- any length of another kind, Echo and Echo Reply included
     ∷ (number (option 6 3), 0)
     ∷ (number (option 6 6 ++ option 6 6), 0)
@@ -121,6 +109,28 @@ numbers =
     ∷ (number (replicate 40 1), 0)
     ∷ []
 
-pub vectors : map (λ v. v .0) numbers ≡ map (λ v. v .1) numbers
-unfolding numbers segment number option stamps sack numberAt isBroken padding paddingRule blocksFrom faultAt faultIn isRepeated isWrongLength lengthsOf oneToFour optionIn optionsOf standsIn optionsRead reading segmentOf
-vectors = refl
+-- n numbers from k on, of which those stay that a test picks
+picked : (ℕ → Bool) → ℕ → ℕ → List ℕ
+picked test zero k = []
+picked test (suc n) k =
+    let rest = picked test n (k + 1) in
+    cond (test k) (k ∷ rest) rest
+
+-- the lengths from 2 to 40 with which an option of a kind is not refused
+lengths : ℕ → List ℕ
+lengths kind = picked (λ n. eqb (number (option kind n)) 0) 39 2
+
+pub kinds : List (List ℕ × List ℕ)
+kinds =
+    (lengths 2, 4 ∷ [])
+    ∷ (lengths 3, 3 ∷ [])
+    ∷ (lengths 4, 2 ∷ [])
+    ∷ (lengths 5, 10 ∷ 18 ∷ 26 ∷ 34 ∷ [])
+    ∷ (lengths 8, 10 ∷ [])
+    -- the kinds of which two options of length 2 are refused: the known ones
+    ∷ (picked (λ kind. not (eqb (number (option kind 2 ++ option kind 2)) 0)) 254 2, 2 ∷ 3 ∷ 4 ∷ 5 ∷ 8 ∷ [])
+    ∷ []
+
+pub vectors : (map (λ v. v .0) numbers ≡ map (λ v. v .1) numbers) × (map (λ v. v .0) kinds ≡ map (λ v. v .1) kinds)
+unfolding numbers kinds picked lengths segment number option stamps sack numberAt isBroken padding paddingRule blocksFrom faultAt faultIn isRepeated isWrongLength lengthsOf oneToFour optionIn optionsOf standsIn optionsRead reading segmentOf
+vectors = (refl, refl)

@@ -36,7 +36,7 @@ pub fn options(segment: &[u8], places: Places) -> Options
 }
 
 fn mss(segment: &[u8], place: u8) -> Mss
-    ensures { λ r. ⌜ ((f : Found) → place ≡ placeOf f → StandsIf (now (segment .entry)) 4 f → r ≡ mssOf f) ⌝ }
+    ensures { λ r. ⌜ ((f : Found) → place ≡ placeOf f → StandsIf (now (segment .entry)) 2 4 f → r ≡ mssOf f) ⌝ }
 {
     if place == 0 {
         return Mss::Absent;
@@ -45,7 +45,7 @@ fn mss(segment: &[u8], place: u8) -> Mss
 }
 
 fn scale(segment: &[u8], place: u8) -> WindowScale
-    ensures { λ r. ⌜ ((f : Found) → place ≡ placeOf f → StandsIf (now (segment .entry)) 3 f → r ≡ scaleOf f) ⌝ }
+    ensures { λ r. ⌜ ((f : Found) → place ≡ placeOf f → StandsIf (now (segment .entry)) 3 3 f → r ≡ scaleOf f) ⌝ }
 {
     if place == 0 {
         return WindowScale::Absent;
@@ -54,7 +54,7 @@ fn scale(segment: &[u8], place: u8) -> WindowScale
 }
 
 fn timestamps(segment: &[u8], place: u8) -> Timestamps
-    ensures { λ r. ⌜ ((f : Found) → place ≡ placeOf f → StandsIf (now (segment .entry)) 10 f → r ≡ timestampsOf f) ⌝ }
+    ensures { λ r. ⌜ ((f : Found) → place ≡ placeOf f → StandsIf (now (segment .entry)) 8 10 f → r ≡ timestampsOf f) ⌝ }
 {
     if place == 0 {
         return Timestamps::Absent;
@@ -65,7 +65,7 @@ fn timestamps(segment: &[u8], place: u8) -> Timestamps
 }
 
 fn sack_blocks(segment: &[u8], place: u8) -> SackBlocks
-    ensures { λ r. ⌜ ((f : Found) → place ≡ placeOf f → StandsIf (now (segment .entry)) 10 f → r ≡ blocksOf f) ⌝ }
+    ensures { λ r. ⌜ ((f : Found) → place ≡ placeOf f → StandsIf (now (segment .entry)) 5 10 f → r ≡ blocksOf f) ⌝ }
 {
     if place == 0 {
         return SackBlocks::Absent;
@@ -87,6 +87,7 @@ fn sack_blocks(segment: &[u8], place: u8) -> SackBlocks
     SackBlocks::Four(first, second, third, block(segment, at + 26))
 }
 
+// The block at a place. The fourth block of an option at place 255, the highest that a u8 holds, would stand at 281.
 fn block(segment: &[u8], at: usize) -> Range
     requires { ⌜ at ≤ 281 ⌝ }
     ensures { λ r. ⌜ r ≡ blockAt (now (segment .entry)) at ⌝ }

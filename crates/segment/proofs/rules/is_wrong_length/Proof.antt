@@ -1,6 +1,6 @@
 -- Each arm is a row of the table of known kinds, or a length of SACK. Assumes nothing.
-use mathlib.Core.Bool.{Bool, true, false, not, _||_}
-use mathlib.Core.Path.{_≡_, refl}
+use mathlib.Core.Bool.{Bool, false, not, _||_, or-false}
+use mathlib.Core.Path.{_≡_, sym, ap}
 use lib.Dec.{eqb}
 use borrow.Author.Tests.{ne-eqb}
 use Rattle.segment.specs.Options.{isWrongLength, lengthsOf, standsIn}
@@ -8,8 +8,7 @@ use Rattle.segment.proofs.rules.is_wrong_length.Statement.{statement}
 use Rattle.segment.proofs.rules.is_wrong_length.Tie as tie
 
 one-length : (fits : Bool) → not fits ≡ not (fits || false)
-one-length true = refl
-one-length false = refl
+one-length fits = ap not (sym (or-false fits))
 
 returns : tie.Need-returns
 unfolding isWrongLength standsIn lengthsOf

@@ -12,7 +12,7 @@ use Rattle.segment.proofs.values.mss.Tie as tie
 returns : tie.Need-returns
 returns c = λ f e stands.
     let s = now (c .before .before .args .segment) in
-    sym (ap mssOf (none-there s 4 _ f e stands (c .if1 .taken)))
+    sym (ap mssOf (none-there s 2 4 _ f e stands (c .if1 .taken)))
 
 add-read-u16 : tie.Need-add-read-u16
 add-read-u16 c = search needs
@@ -22,7 +22,7 @@ read-u16-requires c κs = search needs
 
 returns-2 : tie.Need-returns-2
 returns-2 c = λ f e stands.
-    let there = one-there (now (c .before .before .before .args .segment)) 4 _ f e stands (c .before .if1 .left) in
+    let there = one-there (now (c .before .before .before .args .segment)) 2 4 _ f e stands (c .before .if1 .left) in
     let value = c .read-u16 .ensures ∙ number-there (there .2) 2 2 (omega (arith, there .2 .least)) in
     ap Mss.Octets value ∙ sym (ap mssOf (there .1))
 

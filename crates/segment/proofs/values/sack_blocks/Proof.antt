@@ -17,7 +17,7 @@ use Rattle.segment.proofs.values.sack_blocks.Tie as tie
 returns : tie.Need-returns
 returns c = λ f e stands.
     let s = now (c .before .before .args .segment) in
-    sym (ap blocksOf (none-there s 10 _ f e stands (c .if1 .taken)))
+    sym (ap blocksOf (none-there s 5 10 _ f e stands (c .if1 .taken)))
 
 add-read-u8 : tie.Need-add-read-u8
 add-read-u8 c = search needs
@@ -32,11 +32,11 @@ block-requires : tie.Need-block-requires
 block-requires c κs = search needs
 
 -- where there is an option, the octet after its kind is its length
-option-there : (c : tie.After-read-u8) → let a = c .before .before .before .args in (f : Found) → a .place ≡ placeOf f → StandsIf (now (a .segment)) 10 f
-    → (octets : List ℕ) × (f ≡ found (a .place) octets) × Stands (now (a .segment)) 10 (a .place) octets × (c .read-u8 .result ≡ length octets)
+option-there : (c : tie.After-read-u8) → let a = c .before .before .before .args in (f : Found) → a .place ≡ placeOf f → StandsIf (now (a .segment)) 5 10 f
+    → (octets : List ℕ) × (f ≡ found (a .place) octets) × Stands (now (a .segment)) 5 10 (a .place) octets × (c .read-u8 .result ≡ length octets)
 option-there c f e stands =
-    let there = one-there (now (c .before .before .before .args .segment)) 10 _ f e stands (c .before .if1 .left) in
-    let size = c .read-u8 .ensures ∙ sym (there .2 .there 1 (omega (arith, there .2 .least))) ∙ there .2 .counted in
+    let there = one-there (now (c .before .before .before .args .segment)) 5 10 _ f e stands (c .before .if1 .left) in
+    let size = c .read-u8 .ensures ∙ sym (there .2 .inside .octets-there 1 (omega (arith, there .2 .least))) ∙ there .2 .inside .length-counted in
     (there .0, there .1, there .2, size)
 
 returns-2 : tie.Need-returns-2

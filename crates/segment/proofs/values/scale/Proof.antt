@@ -12,7 +12,7 @@ use Rattle.segment.proofs.values.scale.Tie as tie
 returns : tie.Need-returns
 returns c = λ f e stands.
     let s = now (c .before .before .args .segment) in
-    sym (ap scaleOf (none-there s 3 _ f e stands (c .if1 .taken)))
+    sym (ap scaleOf (none-there s 3 3 _ f e stands (c .if1 .taken)))
 
 add-read-u8 : tie.Need-add-read-u8
 add-read-u8 c = search needs
@@ -22,8 +22,8 @@ read-u8-requires c κs = search needs
 
 returns-2 : tie.Need-returns-2
 returns-2 c = λ f e stands.
-    let there = one-there (now (c .before .before .before .args .segment)) 3 _ f e stands (c .before .if1 .left) in
-    let value = c .read-u8 .ensures ∙ sym (there .2 .there 2 (omega (arith, there .2 .least))) in
+    let there = one-there (now (c .before .before .before .args .segment)) 3 3 _ f e stands (c .before .if1 .left) in
+    let value = c .read-u8 .ensures ∙ sym (there .2 .inside .octets-there 2 (omega (arith, there .2 .least))) in
     ap WindowScale.Shift value ∙ sym (ap scaleOf (there .1))
 
 pub scale-spec : {M : Type 1} → statement M
