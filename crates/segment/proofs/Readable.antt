@@ -8,7 +8,7 @@ use native.Mathlib.Omega.{arith}
 use lib.Dec.{eqb, ltb}
 use lib.ListN.{getD, length}
 use borrow.Author.Tests.{eqb-true, le-ltb, ltb-false, ne-eqb}
-use Rattle.segment.specs.Grammar.{neither}
+use Rattle.laws.proofs.Choices.{neither}
 use Rattle.segment.specs.Options.{blockList, faultIn, nothing, optionIn, optionsOf}
 use Rattle.segment.specs.Reading.{Answer, dataOffset, flagsOf, foundOption, numberOf, optionsRead, readAs, reading, refused, segmentOf, stepsOf, withFields}
 use Rattle.segment.specs.Readable.{Readable}

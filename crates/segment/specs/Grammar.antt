@@ -3,12 +3,13 @@
 use Prim.Native.Nat.{ℕ, zero, suc, _+_, _*_, _≤_}
 use native.Mathlib.Numerals.{add-one}
 use native.Mathlib.Omega.{arith}
-use mathlib.Core.Bool.{Bool, true, false, cond, _||_, true≢false}
+use mathlib.Core.Bool.{Bool, true, false, cond, _||_}
 use mathlib.Core.List.{List, [], _∷_}
 use mathlib.Core.Path.{_≡_, refl, _∙_}
 use lib.Dec.{eqb, ltb}
 use lib.ListN.{drop, getD, length, length-drop, take}
 use borrow.Author.Tests.{ltb-false}
+use Rattle.laws.proofs.Choices.{neither}
 
 -- A step of the rules, with its place in the segment: a NOP, the end of the list, or an option. A whole option has its octets, kind and
 -- length included; after a broken one nothing is read.
@@ -47,10 +48,6 @@ paddingRule at left = padding (2 * length left + 1) at left
 
 unfoldable pub optionRule : ℕ → List ℕ → List Step
 optionRule at left = option (2 * length left) at left
-
-pub neither : (a b : Bool) → (a || b) ≡ false → (a ≡ false) × (b ≡ false)
-neither true b e = absurd (true≢false e)
-neither false b e = (refl, e)
 
 -- The length of an option that is not broken counts at least its kind and itself, and at most what is left.
 module _ (left : List ℕ) (e : isBroken left ≡ false) where

@@ -1,6 +1,6 @@
 -- The offset o(x) is the one number below 2^32 that leads from the base to x. Assumes nothing.
-use mathlib.Core.Path.{_≡_}
-use Prim.Native.Nat.{ℕ, _+_, _%_, _^_, _<_}
+use mathlib.Core.Path.{_≡_, sym}
+use Prim.Native.Nat.{ℕ, _+_, _-_, _%_, _^_, _<_, _≤_}
 use native.Mathlib.Omega.{arith}
 use Rattle.serial.specs.Serial.{movedBy, offsetOf}
 
@@ -15,3 +15,13 @@ moved-offset base x = omega arith
 pub offset-only : (base x o : ℕ) → o < 2 ^ 32 → movedBy base o ≡ x % 2 ^ 32 → o ≡ offsetOf base x
 unfolding offsetOf
 offset-only base x o small leads = omega arith
+
+-- a number moved on by o lies o past the old one
+pub offset-moved : (base o : ℕ) → o < 2 ^ 32 → offsetOf base (movedBy base o) ≡ o
+unfolding offsetOf
+offset-moved base o small = omega arith
+
+-- seen from a base that is moved on by n, what lies n past it or more is n nearer
+pub offset-from-moved : (base n x : ℕ) → n ≤ offsetOf base x → offsetOf (movedBy base n) x ≡ offsetOf base x - n
+offset-from-moved base n x past =
+    sym (offset-only (movedBy base n) x (offsetOf base x - n) (omega (arith, offset-below base x)) (omega (arith, moved-offset base x)))

@@ -1,0 +1,27 @@
+-- What a test or two decide, and what holds of either choice. Assumes nothing.
+use mathlib.Core.Bool.{Bool, true, false, cond, not, _&&_, _||_, false≢true, true≢false}
+use mathlib.Core.Logic.{_⊎_, inl, inr}
+use mathlib.Core.Option.{Option, none, some, Option·elim}
+use mathlib.Core.Path.{_≡_, refl}
+
+pub either : {A : Type 0} (P : A → Type 0) (b : Bool) (x y : A) → (b ≡ true → P x) → (b ≡ false → P y) → P (cond b x y)
+either P true x y t f = t refl
+either P false x y t f = f refl
+
+pub if-some : {A B : Type 0} (P : B → Type 0) (o : Option A) (x : B) (f : A → B) → P x → ((a : A) → P (f a)) → P (Option·elim o x f)
+unfolding Option·elim
+if-some P none x f without with = without
+if-some P (some a) x f without with = with a
+
+pub both-true : (a b : Bool) → a && b ≡ true → (a ≡ true) × (b ≡ true)
+both-true true b t = (refl, t)
+both-true false b t = absurd (false≢true t)
+
+pub neither : (a b : Bool) → a || b ≡ false → (a ≡ false) × (b ≡ false)
+neither true b t = absurd (true≢false t)
+neither false b t = (refl, t)
+
+pub one-false : (a b : Bool) → not (a && b) ≡ true → (a ≡ false) ⊎ (b ≡ false)
+one-false true true t = absurd (false≢true t)
+one-false true false t = inr refl
+one-false false b t = inl refl

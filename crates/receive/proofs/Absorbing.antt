@@ -1,0 +1,37 @@
+-- One range more, put before the others: what is absorbed by then. Assumes nothing.
+use mathlib.Core.Bool.{true, false}
+use mathlib.Core.List.{List, _∷_}
+use mathlib.Core.Path.{_≡_, ap}
+use Prim.Native.Nat.{ℕ, min, max}
+use Rattle.serial.specs.declared.Range.{Range}
+use Rattle.receive.specs.declared.Held.{Held}
+use Rattle.receive.specs.declared.Part.{Part}
+use Rattle.receive.specs.declared.ranges.Absorbed.{Absorbed}
+use Rattle.receive.specs.Ranges.{heldOf, joined, leftOf, meets, rightOf, unmet}
+use Rattle.receive.specs.Internal.{absorbedOf}
+
+-- the part that is absorbed by then, joined with a range more
+abbrev widened : ℕ → Range → Absorbed → Absorbed
+widened nxt r a = record {
+  part = record { from = min (leftOf nxt r) (a .part .from); to = max (rightOf nxt r) (a .part .to) };
+  rest = a .rest;
+}
+
+module _ (nxt : ℕ) (p : Part) (l : List Range) (a : Absorbed) (is : a ≡ absorbedOf nxt p l) where
+  pub part-is : a .part ≡ joined nxt p l
+  unfolding absorbedOf
+  part-is = ap (λ x. x .part) is
+
+  pub rest-is : a .rest ≡ heldOf (unmet nxt p l)
+  unfolding absorbedOf
+  rest-is = ap (λ x. x .rest) is
+
+  module _ (r : Range) where
+    pub one-met : meets nxt p r ≡ true → widened nxt r a ≡ absorbedOf nxt p (r ∷ l)
+    unfolding absorbedOf joined
+    one-met t = rw t (ap (widened nxt r) is)
+
+    pub one-unmet : (rest : Held) → meets nxt p r ≡ false → rest ≡ heldOf (r ∷ unmet nxt p l) →
+        _≡_ {A = Absorbed} record { part = a .part; rest = rest } (absorbedOf nxt p (r ∷ l))
+    unfolding absorbedOf joined
+    one-unmet rest t e = rw (t, e) (ap (λ x. record { part = x .part; rest = heldOf (r ∷ unmet nxt p l) }) is)

@@ -1,0 +1,122 @@
+-- Taking a new part, and writing an acknowledgment, leave a sound receive side; an empty part leaves it as it was. Assumes nothing.
+use mathlib.Core.Bool.{Bool, true, false, cond, not, _&&_}
+use mathlib.Core.List.{List, _∷_}
+use mathlib.Core.Path.{_≡_, refl}
+use Prim.Native.Nat.{ℕ, _+_, _-_, _%_, _^_, _≤_, _<_}
+use native.Mathlib.Nat.{mul-le-mul-left}
+use native.Mathlib.Omega.{arith}
+use lib.Dec.{eqb, ltb}
+use lib.Pow.{pow-mono}
+use borrow.Author.Tests.{eq-eqb, eqb-true, lt-leb, ltb-true, ne-eqb}
+use Rattle.serial.specs.declared.Range.{Range}
+use Rattle.receive.specs.declared.Part.{Part}
+use Rattle.receive.specs.declared.Receive.{Receive}
+use Rattle.laws.specs.Lists.{Each}
+use Rattle.receive.specs.Ranges.{isOutOfOrder, joined, leftOf, meets, noRoom, rangeOf, rangesAfter, rangesOf, unmet}
+use Rattle.receive.specs.Sound.{Sound, SoundRanges}
+use Rattle.receive.specs.Taking.{acknowledged, advance, advanced, holding, taken}
+use Rattle.receive.specs.Window.{newPart}
+use Rattle.laws.proofs.Choices.{both-true, either}
+use Rattle.laws.proofs.Lists.{each-map, filter-none, filter-others}
+use Rattle.receive.proofs.Room.{near-leaves, room}
+use Rattle.receive.proofs.Slots.{canonical-held, ranges-held}
+use Rattle.receive.proofs.Soundness.{advanced-sound, joined-sound, joined-within}
+
+-- the new part lies in the window
+pub part-within : (r : Receive) (seq len : ℕ) → newPart r seq len .to ≤ r .window
+unfolding newPart
+part-within r seq len = either (λ (p : Part). p .to ≤ r .window) (eqb len 0) _ _ (λ _. omega arith) (λ _. omega arith)
+
+-- the two cases
+module _ (r : Receive) (p : Part) where
+  pub taken-first : p .from ≡ 0 → taken r p ≡ advanced r p
+  unfolding taken
+  taken-first first = rw (eq-eqb _ _ first)
+
+  pub taken-later : (p .from ≡ 0 → ⊥) → taken r p ≡ holding r p
+  unfolding taken
+  taken-later later = rw (ne-eqb _ _ later)
+
+module _ (r : Receive) (s : Sound r) where
+  -- a window that E13 lets pass
+  pub window-below : r .window < 2 ^ 30
+  window-below = omega (arith, s .window-most, mul-le-mul-left 65535 (pow-mono {i = r .shift} {j = 14} (s .shift-most)))
+
+  module _ (p : Part) (within : p .to ≤ r .window) where
+    pub advance-within : advance r p ≤ r .window
+    advance-within = joined-within (r .nxt .0) p (r .window) (rangesOf (r .held)) (s .ranges) within
+
+    -- the ranges afterwards
+    after-sound : SoundRanges (r .nxt .0) (r .window) (rangesAfter (r .nxt .0) p (rangesOf (r .held)))
+    unfolding rangesAfter isOutOfOrder
+    after-sound = pick (isOutOfOrder p) refl (noRoom nxt p l) refl
+      where
+        nxt : ℕ
+        nxt = r .nxt .0
+
+        l : List Range
+        l = rangesOf (r .held)
+
+        pick : (b : Bool) → isOutOfOrder p ≡ b → (n : Bool) → noRoom nxt p l ≡ n
+            → SoundRanges nxt (r .window) (cond (b && not n) (rangeOf nxt (joined nxt p l) ∷ unmet nxt p l) l)
+        pick true b true n = s .ranges
+        pick true b false n =
+            let tests = both-true (ltb 0 (p .from)) (ltb (p .from) (p .to)) b in
+            joined-sound nxt p (r .window) l (s .ranges) (omega (arith, window-below)) (ltb-true _ _ (tests .0)) (ltb-true _ _ (tests .1)) within
+            (room nxt p l b n (s .ranges .few))
+        pick false b n e = s .ranges
+
+    advanced-keeps : p .from ≡ 0 → Sound (advanced r p)
+    unfolding advanced
+    advanced-keeps zero =
+        let after = advanced-sound (r .nxt .0) (r .window) (advanced r p .window) p (rangesOf (r .held)) (omega arith) zero (s .ranges) in
+        record {
+          nxt-below = omega arith;
+          shift-most = s .shift-most;
+          window-most = omega (arith, s .window-most);
+          canonical = canonical-held _ (after .few);
+          ranges = rw ranges-held after;
+        }
+
+    holding-keeps : Sound (holding r p)
+    unfolding holding
+    holding-keeps = record {
+      nxt-below = s .nxt-below;
+      shift-most = s .shift-most;
+      window-most = s .window-most;
+      canonical = canonical-held _ (after-sound .few);
+      ranges = rw ranges-held after-sound;
+    }
+
+    pub part-taken-sound : Sound (taken r p)
+    unfolding taken
+    part-taken-sound = either Sound (eqb (p .from) 0) _ _ (λ zero. advanced-keeps (eqb-true _ _ zero)) (λ _. holding-keeps)
+
+  pub holding-near : (p : Part) → isOutOfOrder p ≡ false → holding r p ≡ r
+  unfolding holding
+  holding-near p near = rw (near-leaves (r .nxt .0) p (rangesOf (r .held)) near, ← s .canonical .form)
+
+pub taken-sound : (r : Receive) (seq len : ℕ) → Sound r → Sound (taken r (newPart r seq len))
+taken-sound r seq len s = part-taken-sound r s (newPart r seq len) (part-within r seq len)
+
+pub acknowledged-sound : (r : Receive) → Sound r → Sound (acknowledged r)
+acknowledged-sound r s =
+    record { nxt-below = s .nxt-below; shift-most = s .shift-most; window-most = s .window-most; canonical = s .canonical; ranges = s .ranges }
+
+abbrev empty : Part
+empty = record { from = 0; to = 0 }
+
+above-empty : (nxt : ℕ) (r : Range) → 0 < leftOf nxt r → meets nxt empty r ≡ false
+unfolding meets
+above-empty nxt r above = rw (lt-leb (leftOf nxt r) 0 above)
+
+-- LEN 0 changes no range and leaves RCV.NXT
+pub empty-part : (r : Receive) (seq : ℕ) → Sound r → taken r (newPart r seq 0) ≡ r
+unfolding taken newPart advanced joined
+empty-part r seq s =
+    let nxt : (r .nxt .0 + 0) % 2 ^ 32 ≡ r .nxt .0 = omega (arith, s .nxt-below) in
+    let window : r .window - 0 ≡ r .window = omega arith in
+    rw (filter-none (meets (r .nxt .0) empty) clear, filter-others (meets (r .nxt .0) empty) clear, nxt, window, ← s .canonical .form)
+  where
+    clear : Each (λ x. meets (r .nxt .0) empty x ≡ false) (rangesOf (r .held))
+    clear = each-map (λ x i. above-empty (r .nxt .0) x (i .above)) (s .ranges .inside)

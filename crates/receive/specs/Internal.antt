@@ -1,0 +1,18 @@
+-- What the contracts of private functions cite. No promise of the crate rests on these.
+use mathlib.Core.Bool.{cond}
+use mathlib.Core.List.{List, _∷_}
+use Prim.Native.Nat.{ℕ}
+use lib.Dec.{ltb}
+use lib.ListN.{length}
+use Rattle.serial.specs.declared.Range.{Range}
+use Rattle.receive.specs.declared.Part.{Part}
+use Rattle.receive.specs.declared.ranges.Absorbed.{Absorbed}
+use Rattle.receive.specs.Ranges.{heldOf, joined, unmet}
+
+-- a part joined with the ranges that it meets, beside the others
+unfoldable pub absorbedOf : ℕ → Part → List Range → Absorbed
+absorbedOf nxt p ranges = record { part = joined nxt p ranges; rest = heldOf (unmet nxt p ranges) }
+
+-- a range put first, where a slot is left for it
+unfoldable pub withFirst : Range → List Range → List Range
+withFirst r ranges = cond (ltb (length ranges) 8) (r ∷ ranges) ranges

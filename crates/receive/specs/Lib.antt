@@ -1,0 +1,6 @@
+pub mod Ranges
+pub mod Window
+pub mod Taking
+pub mod Sound
+pub mod Internal
+pub mod Vectors

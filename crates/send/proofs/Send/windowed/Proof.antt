@@ -1,0 +1,24 @@
+-- The window field is below 2^16 and the shift at most 14, so that no bit is lost. Assumes nothing.
+use lib.Pow.{shl-exact}
+use borrow.Author.Needs.{needs}
+use Rattle.send.specs.Send.{windowed}
+use Rattle.send.proofs.Send.windowed.Statement.{statement}
+use Rattle.send.proofs.Send.windowed.Tie as tie
+
+cast-window : tie.Need-cast-window
+cast-window c = search needs
+
+cast-window-2 : tie.Need-cast-window-2
+cast-window-2 c = search needs
+
+shl-window : tie.Need-shl-window
+shl-window c = search needs
+
+returns : tie.Need-returns
+unfolding windowed
+returns c =
+    let a = c .before .before .before .before .before .before .args in
+    rw (shl-exact {a = a .seg .window} 16 (a .self .shift) 32 (search needs) (search needs))
+
+pub windowed-spec : {M : Type 1} → statement M
+windowed-spec = tie.close (tie.spec cast-window cast-window-2 shl-window returns)

@@ -1,0 +1,33 @@
+-- No operation changes the shift, so that every send side that they give back is sound. Assumes nothing.
+use mathlib.Core.Bool.{Bool}
+use Prim.Native.Nat.{ℕ, _≤_}
+use Rattle.laws.proofs.Choices.{either}
+use Rattle.serial.specs.declared.Seq.{Seq}
+use Rattle.send.specs.Send.{Answer, acknowledged, exceedsWindow, opened, sent, taken, updatesWindow, windowed}
+use Rattle.send.specs.Sound.{Sound}
+use Rattle.send.specs.declared.Send.{Send}
+use Rattle.send.specs.declared.Seg.{Seg}
+
+pub opened-sound : (iss shift : ℕ) (syn : Seg) (flag : Bool) → shift ≤ 14 → Sound (opened iss shift syn flag)
+unfolding opened
+opened-sound iss shift syn flag most = record { shift-most = most }
+
+module _ (s : Send) where
+  pub acknowledged-sound : (ack : Seq) → Sound s → Sound (acknowledged s ack)
+  unfolding acknowledged
+  acknowledged-sound ack sound = record { shift-most = sound .shift-most }
+
+  windowed-sound : (seg : Seg) → Sound s → Sound (windowed s seg)
+  unfolding windowed
+  windowed-sound seg sound = record { shift-most = sound .shift-most }
+
+pub taken-sound : (s : Send) (seg : Seg) → Sound s → Sound (taken s seg)
+unfolding taken
+taken-sound s seg sound =
+    let next = acknowledged-sound s (seg .ack) sound in
+    either Sound (updatesWindow s seg) _ _ (λ _. windowed-sound (acknowledged s (seg .ack)) seg next) (λ _. next)
+
+pub sent-sound : (s : Send) (n : ℕ) → Sound s → Sound (sent s n .send)
+unfolding sent
+sent-sound s n sound =
+    either (λ (a : Answer). Sound (a .send)) (exceedsWindow s n) _ _ (λ _. sound) (λ _. record { shift-most = sound .shift-most })

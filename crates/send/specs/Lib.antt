@@ -1,0 +1,3 @@
+pub mod Send
+pub mod Sound
+pub mod Vectors

@@ -1,0 +1,216 @@
+// The send side of a connection, as far as arriving acknowledgments move it: which are new, the send window, the octets noted as sent,
+// and which of the peer's SACK blocks are listed.
+ghost use mathlib.Core.Path.{_≡_};
+ghost use Prim.Native.Nat.{_≤_};
+ghost use Rattle.send.specs.Send.{acknowledged, exceedsWindow, isCurrent, isLater, isListed, isNew, isUnsent, numberOf, opened, sent, shown, taken, updatesWindow, windowed};
+ghost use Rattle.send.specs.Sound.{Sound};
+use serial::Range;
+use serial::Seq;
+
+pub struct Send {
+    // SND.UNA and SND.NXT.
+    pub una: Seq,
+    pub nxt: Seq,
+    // SND.WND, and the shift by which the peer writes it.
+    pub window: u32,
+    pub shift: u8,
+    // SEQ and ACK of the segment that last set the window.
+    pub wl1: Seq,
+    pub wl2: Seq,
+}
+
+// RFC 9293's SEG.SEQ, SEG.ACK and SEG.WND: what a segment tells the send side.
+pub struct Seg {
+    pub seq: Seq,
+    pub ack: Seq,
+    pub window: u16,
+}
+
+// What noting sent octets answers.
+pub enum SentOutcome {
+    Noted,
+    // E12.
+    Refused,
+}
+
+// Where the octets are refused, the send side is the one handed in.
+pub struct SentAnswer {
+    pub outcome: SentOutcome,
+    pub send: Send,
+}
+
+impl SentOutcome {
+    // The outcome's number, 0 or 12.
+    pub fn number(self) -> u8
+        ensures { λ r. ⌜ r ≡ numberOf self ⌝ }
+    {
+        match self {
+            SentOutcome::Noted => 0,
+            SentOutcome::Refused => 12,
+        }
+    }
+}
+
+impl Send {
+    // A send side at its opening by the peer's SYN, which has the ACK flag or not.
+    pub fn new(iss: Seq, shift: u8, syn: Seg, flag: bool) -> Send
+        ensures { λ r. ⌜ r ≡ opened (iss .0) shift syn flag ⌝ }
+    {
+        let nxt = iss.moved(1);
+        let window = syn.window as u32;
+        let wl1 = syn.seq;
+        let ack = syn.ack;
+        if flag {
+            Send {
+                una: nxt,
+                nxt,
+                window,
+                shift,
+                wl1,
+                wl2: ack,
+            }
+        } else {
+            Send {
+                una: iss,
+                nxt,
+                window,
+                shift,
+                wl1,
+                wl2: iss,
+            }
+        }
+    }
+
+    // Whether an ACK is of octets that were not sent: verdict 29.
+    pub fn is_unsent(self, ack: Seq) -> bool
+        ensures { λ r. ⌜ r ≡ isUnsent self (ack .0) ⌝ }
+    {
+        self.nxt.before(ack)
+    }
+
+    // Whether an ACK is new.
+    pub fn is_new(self, ack: Seq) -> bool
+        ensures { λ r. ⌜ r ≡ isNew self (ack .0) ⌝ }
+    {
+        let forward = ack.offset(self.una);
+        if forward == 0 {
+            return false;
+        }
+        forward <= self.nxt.offset(self.una)
+    }
+
+    // The send side after a segment is taken.
+    pub fn take(self, seg: Seg) -> Send
+        requires { ⌜ Sound self ⌝ }
+        ensures taken { λ r. ⌜ r ≡ taken self seg ⌝ }
+        ensures sound { λ r. ⌜ Sound r ⌝ }
+    {
+        let next = self.acknowledged(seg.ack);
+        if self.updates_window(seg) {
+            next.windowed(seg)
+        } else {
+            next
+        }
+    }
+
+    // Notes that `n` octets were sent, or refuses more than the window lets be sent.
+    pub fn note_sent(self, n: u32) -> SentAnswer
+        requires { ⌜ Sound self ⌝ }
+        ensures answer { λ r. ⌜ shown r ≡ sent self n ⌝ }
+        ensures sound { λ r. ⌜ Sound (r .send) ⌝ }
+    {
+        if self.exceeds_window(n) {
+            return SentAnswer {
+                outcome: SentOutcome::Refused,
+                send: self,
+            };
+        }
+        let nxt = self.nxt.moved(n);
+        SentAnswer {
+            outcome: SentOutcome::Noted,
+            send: Send { nxt, ..self },
+        }
+    }
+
+    // Whether a SACK block of the peer is listed: it lies above UNA, is not empty and ends at NXT or before.
+    pub fn is_listed(self, block: Range) -> bool
+        ensures { λ r. ⌜ r ≡ isListed self block ⌝ }
+    {
+        let left = block.left.offset(self.una);
+        let right = block.right.offset(self.una);
+        if left == 0 {
+            return false;
+        }
+        if right <= left {
+            return false;
+        }
+        right <= self.nxt.offset(self.una)
+    }
+
+    // E12.
+    fn exceeds_window(self, n: u32) -> bool
+        ensures { λ r. ⌜ r ≡ exceedsWindow self n ⌝ }
+    {
+        let outstanding = self.nxt.offset(self.una);
+        (self.window as u64) < (outstanding as u64) + (n as u64)
+    }
+
+    // UNA moved by a new ACK.
+    fn acknowledged(self, ack: Seq) -> Send
+        ensures { λ r. ⌜ r ≡ acknowledged self ack ⌝ }
+    {
+        if self.is_new(ack) {
+            Send { una: ack, ..self }
+        } else {
+            self
+        }
+    }
+
+    // Whether an ACK is new, or repeats the last.
+    fn is_current(self, ack: Seq) -> bool
+        ensures { λ r. ⌜ r ≡ isCurrent self (ack .0) ⌝ }
+    {
+        if self.is_new(ack) {
+            return true;
+        }
+        ack.0 == self.una.0
+    }
+
+    // Whether the segment comes after the one that last set the window.
+    fn is_later(self, seg: Seg) -> bool
+        ensures { λ r. ⌜ r ≡ isLater self seg ⌝ }
+    {
+        if self.wl1.before(seg.seq) {
+            return true;
+        }
+        if self.wl1.0 != seg.seq.0 {
+            return false;
+        }
+        self.wl2.at_or_before(seg.ack)
+    }
+
+    fn updates_window(self, seg: Seg) -> bool
+        ensures { λ r. ⌜ r ≡ updatesWindow self seg ⌝ }
+    {
+        if self.is_current(seg.ack) {
+            return self.is_later(seg);
+        }
+        false
+    }
+
+    // The segment's window, and its SEQ and ACK.
+    fn windowed(self, seg: Seg) -> Send
+        requires { ⌜ self .shift ≤ 14 ⌝ }
+        ensures { λ r. ⌜ r ≡ windowed self seg ⌝ }
+    {
+        let window = (seg.window as u32) << self.shift;
+        let wl1 = seg.seq;
+        let wl2 = seg.ack;
+        Send {
+            window,
+            wl1,
+            wl2,
+            ..self
+        }
+    }
+}
