@@ -1,0 +1,56 @@
+-- E8, or what the table decided.
+-- Assumes nothing.
+use mathlib.Core.Path.{sym, ap, _∙_}
+use borrow.Author.Tests.{le-ltb, lt-ltb}
+use Rattle.connection.specs.Numbers.{Decision}
+use Rattle.connection.specs.Arriving.{arrivingRead, isTake, judged, settled, unchanged}
+use borrow.Author.Needs.{needs}
+use Rattle.connection.proofs.Connection.arrive_read.Statement.{statement}
+use Rattle.connection.proofs.Connection.arrive_read.Tie as tie
+
+unchanged-requires : tie.Need-unchanged-requires
+unchanged-requires c κs = search needs
+
+returns : tie.Need-returns
+unfolding arrivingRead judged settled
+returns c = rw (lt-ltb _ _ (c .before .if1 .taken)) (c .unchanged .ensures)
+
+judge-requires : tie.Need-judge-requires
+judge-requires c κs = search needs
+
+is-take-requires : tie.Need-is-take-requires
+is-take-requires c κs = search needs
+
+take-requires : tie.Need-take-requires
+take-requires c κs = search needs
+
+returns-2 : tie.Need-returns-2
+unfolding arrivingRead judged settled
+returns-2 c =
+    let decision = ap (λ (d : Decision). isTake (d .answer)) (sym (c .before .before .before .judge .ensures)) in
+    let takes = decision ∙ (sym (c .before .before .is-take .ensures) ∙ c .before .if2 .taken) in
+    rw (le-ltb _ _ (c .before .before .before .before .if1 .left), takes) (c .take .ensures)
+
+unchanged-requires-2 : tie.Need-unchanged-requires-2
+unchanged-requires-2 c κs = search needs
+
+returns-3 : tie.Need-returns-3
+unfolding arrivingRead judged settled
+returns-3 c =
+    let decision = ap (λ (d : Decision). isTake (d .answer)) (sym (c .before .before .before .judge .ensures)) in
+    let drops = decision ∙ (sym (c .before .before .is-take .ensures) ∙ c .before .if2 .left) in
+    let is = c .unchanged2 .ensures ∙ ap (unchanged (c .before .before .before .before .before .before .args .self)) (c .before .before .before .judge .ensures) in
+    rw (le-ltb _ _ (c .before .before .before .before .if1 .left), drops) is
+
+pub arrive-read-spec : {M : Type 1} → statement M
+arrive-read-spec =
+    tie.close
+    (tie.spec
+    unchanged-requires
+    returns
+    judge-requires
+    is-take-requires
+    take-requires
+    returns-2
+    unchanged-requires-2
+    returns-3)

@@ -1,0 +1,126 @@
+-- Every operation gives back a sound record. Assumes nothing.
+use mathlib.Core.Bool.{false}
+use mathlib.Core.List.{List}
+use mathlib.Core.Path.{_≡_}
+use Prim.Native.Nat.{ℕ}
+use native.Mathlib.Omega.{arith}
+use lib.Dec.{ltb}
+use Rattle.serial.specs.Serial.{movedBy}
+use Rattle.offers.specs.Offers.{exceedLimits}
+use Rattle.offers.proofs.Limits.{shifts-most, window-most}
+use Rattle.receive.proofs.Opening as opening-side
+use Rattle.receive.proofs.Taken as receive-side
+use Rattle.rto.specs.Calls.{expiry}
+use Rattle.rto.proofs.Sound.{sound-called, sound-new, sound-run}
+use Rattle.segment.specs.Reading.{reading}
+use Rattle.segment.specs.declared.Segment.{Segment}
+use Rattle.send.proofs.Sound as send-side
+use Rattle.connection.specs.declared.Connection.{Connection}
+use Rattle.connection.specs.declared.Setup.{Setup}
+use Rattle.connection.specs.Numbers.{Decision}
+use Rattle.connection.specs.Record.{Answer, Sound, blank}
+use Rattle.connection.specs.Opening.{isNotSyn, isWrongAck, opening, openingFrom, peerOffers, recordFrom, recordWith, refusedOpening, segOf}
+use Rattle.connection.specs.Verdict.{decided, rows}
+use Rattle.connection.specs.Taking.{fedBy, recordAfter}
+use Rattle.connection.specs.Arriving.{Arrival, arriving, arrivingRead, isTake, judged, settled, takenBy}
+use Rattle.connection.specs.Operations.{acknowledged, expired, sent, windowOpened}
+use Rattle.laws.proofs.Choices.{either, if-some}
+
+-- opening
+blank-sound : Sound blank
+unfolding blank
+blank-sound = record {
+  receive-sound = opening-side.opened-sound 0 0 0 (omega arith) (omega arith) (omega arith);
+  send-sound = record { shift-most = omega arith };
+  timer-sound = sound-new;
+}
+
+record-sound : (own : Setup) (clock : ℕ) (syn : Segment) → exceedLimits (own .offers) (own .window) ≡ false → Sound (recordFrom own clock syn)
+unfolding recordFrom recordWith
+record-sound own clock syn kept =
+    let shifts = shifts-most (own .offers) (peerOffers syn) (own .window) kept in
+    record {
+      receive-sound =
+          opening-side.opened-sound (movedBy (syn .seq .0) 1) (own .window) _ (omega arith) (shifts .0)
+          (window-most (own .offers) (own .window) kept);
+      send-sound = send-side.opened-sound (own .iss .0) _ (segOf syn) (syn .flags .ack) (shifts .1);
+      timer-sound = sound-new;
+    }
+
+pub opening-sound : (own : Setup) (clock : ℕ) (octets : List ℕ) → Sound (opening own clock octets .connection)
+unfolding opening openingFrom
+opening-sound own clock octets =
+    either SoundAnswer (exceedLimits (own .offers) (own .window)) (refusedOpening 9) _ (λ _. blank-sound)
+    (λ kept.
+    if-some SoundAnswer (reading octets .fields) (refusedOpening (reading octets .number)) (openingFrom own clock) blank-sound
+    (λ syn.
+    either SoundAnswer (isNotSyn syn) (refusedOpening 10) _ (λ _. blank-sound)
+    (λ _.
+    either SoundAnswer (isWrongAck (own .iss .0) syn) (refusedOpening 11) _ (λ _. blank-sound) (λ _. record-sound own clock syn kept))))
+  where
+    SoundAnswer : Answer → Type 0
+    SoundAnswer a = Sound (a .connection)
+
+abbrev SoundArrival : Arrival → Type 0
+SoundArrival a = Sound (a .connection)
+
+-- an operation on a sound record
+module _ (k : Connection) (h : Sound k) where
+  record-after-sound : (clock : ℕ) (s : Segment) → Sound (recordAfter k clock s)
+  unfolding recordAfter
+  record-after-sound clock s = record {
+    receive-sound = receive-side.taken-sound (k .receive) (s .seq .0) (s .len) (h .receive-sound);
+    send-sound = send-side.taken-sound (k .send) (segOf s) (h .send-sound);
+    timer-sound = sound-run (fedBy k clock s) (k .timer) (h .timer-sound);
+  }
+
+  settled-sound : (clock : ℕ) (s : Segment) (d : Decision) → Sound (settled k clock s d .connection)
+  unfolding settled takenBy
+  settled-sound clock s d =
+      either SoundArrival (isTake (d .answer)) _ _ (λ _. search (record-after-sound clock s)) (λ _. search (h .receive-sound))
+
+  pub arriving-sound : (clock : ℕ) (octets : List ℕ) → Sound (arriving k clock octets .connection)
+  unfolding arriving arrivingRead judged
+  arriving-sound clock octets =
+      if-some SoundArrival (reading octets .fields) _ (arrivingRead k clock) h
+      (λ s.
+      either SoundArrival (ltb clock (k .timestamping .since)) _ _ (λ _. h) (λ _. settled-sound clock s (decided (rows k clock s))))
+
+  pub sent-sound : (n : ℕ) → Sound (sent k n .connection)
+  unfolding sent
+  sent-sound n = record {
+    receive-sound = h .receive-sound;
+    send-sound = send-side.sent-sound (k .send) n (h .send-sound);
+    timer-sound = h .timer-sound;
+  }
+
+  pub window-sound : (n : ℕ) → Sound (windowOpened k n .connection)
+  unfolding windowOpened
+  window-sound n = record {
+    receive-sound = opening-side.opened-window-sound (k .receive) n (h .receive-sound);
+    send-sound = h .send-sound;
+    timer-sound = h .timer-sound;
+  }
+
+  pub expired-sound : Sound (expired k)
+  unfolding expired
+  expired-sound = record {
+    receive-sound = h .receive-sound;
+    send-sound = h .send-sound;
+    timer-sound = sound-called (k .timer) expiry (h .timer-sound);
+  }
+
+  pub acknowledged-sound : Sound (acknowledged k)
+  unfolding acknowledged
+  acknowledged-sound = record {
+    receive-sound = receive-side.acknowledged-sound (k .receive) (h .receive-sound);
+    send-sound = h .send-sound;
+    timer-sound = h .timer-sound;
+  }
+
+-- the same of an answer that equals one of these
+pub as-answered : (a b : Answer) → a ≡ b → Sound (b .connection) → Sound (a .connection)
+as-answered a b e h = rw e h
+
+pub as-arrived : (a b : Arrival) → a ≡ b → Sound (b .connection) → Sound (a .connection)
+as-arrived a b e h = rw e h

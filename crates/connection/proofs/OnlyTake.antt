@@ -1,0 +1,73 @@
+-- Only take changes the record (house), and a refusal is its number alone. Assumes nothing.
+use mathlib.Core.Bool.{true, false, false≢true}
+use mathlib.Core.List.{List}
+use mathlib.Core.Path.{_≡_, refl, sym}
+use Prim.Native.Nat.{ℕ}
+use lib.Dec.{ltb}
+use Rattle.offers.specs.Offers.{exceedLimits}
+use Rattle.receive.specs.Window as receive
+use Rattle.segment.specs.Reading.{reading}
+use Rattle.segment.specs.declared.Segment.{Segment}
+use Rattle.send.specs.Send as send
+use Rattle.connection.specs.declared.Connection.{Connection}
+use Rattle.connection.specs.declared.Setup.{Setup}
+use Rattle.connection.specs.Numbers.{Decision, refuse}
+use Rattle.connection.specs.Record.{Answer}
+use Rattle.connection.specs.Opening.{isNotSyn, isWrongAck, opening, openingFrom, refusedOpening}
+use Rattle.connection.specs.Verdict.{decided, rows}
+use Rattle.connection.specs.Arriving.{Arrival, arriving, arrivingRead, isTake, judged, settled, takenBy, unchanged}
+use Rattle.connection.specs.Operations.{sent, windowOpened, withReceive, withSend}
+use Rattle.laws.proofs.Choices.{either, if-some}
+
+-- what is not taken leaves the record, and has no part, no FIN and no blocks
+abbrev Leaves : Connection → Arrival → Type 0
+Leaves k a = isTake (a .decision .answer) ≡ false → a ≡ unchanged k (a .decision)
+
+settled-leaves : (k : Connection) (clock : ℕ) (s : Segment) (d : Decision) → Leaves k (settled k clock s d)
+unfolding settled takenBy
+settled-leaves k clock s d =
+    either (Leaves k) (isTake (d .answer)) (takenBy k clock s) (unchanged k d) (λ _ e. absurd (false≢true (sym e))) (λ _ e. refl)
+
+pub only-take : (k : Connection) (clock : ℕ) (octets : List ℕ) → Leaves k (arriving k clock octets)
+unfolding arriving arrivingRead judged
+only-take k clock octets =
+    if-some (Leaves k) (reading octets .fields) _ (arrivingRead k clock) (λ e. refl)
+    (λ s.
+    either (Leaves k) (ltb clock (k .timestamping .since)) _ _ (λ _ e. refl)
+    (λ _. settled-leaves k clock s (decided (rows k clock s))))
+
+pub refusal-leaves : (k : Connection) (clock : ℕ) (octets : List ℕ) → arriving k clock octets .decision .answer ≡ refuse
+    → arriving k clock octets ≡ unchanged k (arriving k clock octets .decision)
+refusal-leaves k clock octets e = only-take k clock octets (rw e refl)
+
+-- a refused opening gives the blank record
+pub opening-refusal : (own : Setup) (clock : ℕ) (octets : List ℕ) → (opening own clock octets .number ≡ 0 → ⊥)
+    → opening own clock octets ≡ refusedOpening (opening own clock octets .number)
+unfolding opening openingFrom
+opening-refusal own clock octets =
+    either Blank (exceedLimits (own .offers) (own .window)) _ _ (λ _ e. refl)
+    (λ _.
+    if-some Blank (reading octets .fields) _ (openingFrom own clock) (λ e. refl)
+    (λ syn.
+    either Blank (isNotSyn syn) _ _ (λ _ e. refl)
+    (λ _. either Blank (isWrongAck (own .iss .0) syn) _ _ (λ _ e. refl) (λ _ e. absurd (e refl)))))
+  where
+    Blank : Answer → Type 0
+    Blank a = (a .number ≡ 0 → ⊥) → a ≡ refusedOpening (a .number)
+
+-- E12 and E13 leave the record
+pub sent-refusal : (k : Connection) (n : ℕ) → (sent k n .number ≡ 0 → ⊥) → sent k n .connection ≡ k
+unfolding sent send.sent
+sent-refusal k n =
+    either Kept (send.exceedsWindow (k .send) n) _ _ (λ _ e. refl) (λ _ e. absurd (e refl))
+  where
+    Kept : send.Answer → Type 0
+    Kept a = (a .number ≡ 0 → ⊥) → withSend k (a .send) ≡ k
+
+pub window-refusal : (k : Connection) (n : ℕ) → (windowOpened k n .number ≡ 0 → ⊥) → windowOpened k n .connection ≡ k
+unfolding windowOpened receive.windowOpened
+window-refusal k n =
+    either Kept (receive.isWindowRefused (k .receive) n) _ _ (λ _ e. refl) (λ _ e. absurd (e refl))
+  where
+    Kept : receive.Answer → Type 0
+    Kept a = (a .number ≡ 0 → ⊥) → withReceive k (a .receive) ≡ k

@@ -1,0 +1,151 @@
+-- Over any list of calls: records stay sound, and a record's timer is the free-standing timer after the calls made on it, so that demand 3
+-- holds in a record. Assumes nothing.
+use mathlib.Core.Bool.{Bool, true, false, cond}
+use mathlib.Core.List.{List, [], _∷_, _++_}
+use mathlib.Core.Option.{Option, none, some, Option·elim}
+use mathlib.Core.Path.{_≡_, refl, sym, ap, subst, _∙_}
+use Prim.Native.Nat.{ℕ}
+use native.Mathlib.Omega.{arith}
+use lib.Dec.{ltb}
+use lib.ListN.{getD}
+use Rattle.rto.specs.Calls as rto
+use Rattle.rto.specs.Demand as rto-demand
+use Rattle.rto.specs.Exact.{exactRun, unset}
+use Rattle.rto.specs.Timer.{newTimer}
+use Rattle.rto.specs.declared.Timer.{Timer}
+use Rattle.rto.proofs.Bound.{demand-3}
+use Rattle.segment.specs.Reading.{readAs, reading}
+use Rattle.segment.specs.declared.Segment.{Segment}
+use Rattle.segment.specs.declared.Timestamps.{Timestamps}
+use Rattle.send.specs.Send.{isNew}
+use Rattle.serial.specs.Serial.{roundTrip, stampAt}
+use Rattle.serial.specs.declared.Stamp.{Stamp}
+use Rattle.offers.specs.Offers.{exceedLimits}
+use Rattle.connection.specs.declared.Connection.{Connection}
+use Rattle.connection.specs.declared.Setup.{Setup}
+use Rattle.connection.specs.Numbers.{Decision}
+use Rattle.connection.specs.Record.{Answer, Sound, blank}
+use Rattle.connection.specs.Opening.{isNotSyn, isWrongAck, opening, openingFrom, recordFrom, recordWith}
+use Rattle.connection.specs.Verdict.{decided, rows}
+use Rattle.connection.specs.Taking.{fedBy, recordAfter, sampleOf}
+use Rattle.connection.specs.Arriving.{arriving, arrivingRead, isTake, judged, refusedWith, settled, takenBy, unchanged}
+use Rattle.connection.specs.Operations.{acknowledged, expired, sent, windowOpened}
+use Rattle.connection.specs.Calls.{Call, Opened, acknowledgment, arrival, called, expiry, run, sending, timerCall, timerCalls, window}
+use Rattle.connection.specs.Demand.{Demand3, SoundAlways, TimerFollows}
+use Rattle.connection.specs.Cases.{base, fin, octets, stamps}
+use Rattle.connection.specs.Witnesses.{base-opened, fedCalls, witnesses}
+use Rattle.laws.proofs.Choices.{either, if-some}
+use Rattle.connection.proofs.Keeping.{acknowledged-sound, arriving-sound, expired-sound, opening-sound, sent-sound, window-sound}
+
+-- what an arrival feeds to the timer is what its record's timer has run through
+module _ (k : Connection) (clock : ℕ) where
+  settled-timer : (s : Segment) (d : Decision)
+      → settled k clock s d .connection .timer
+      ≡ rto.run (k .timer) (cond (isTake (settled k clock s d .decision .answer)) (fedBy k clock s) [])
+  unfolding settled takenBy recordAfter
+  settled-timer s d = pick (isTake (d .answer)) refl
+    where
+      pick : (t : Bool) → isTake (d .answer) ≡ t
+          → cond t (takenBy k clock s) (unchanged k d) .connection .timer
+          ≡ rto.run (k .timer) (cond (isTake (cond t (takenBy k clock s) (unchanged k d) .decision .answer)) (fedBy k clock s) [])
+      pick true e = refl
+      pick false e = rw e refl
+
+  arrival-timer : (number : ℕ) (fields : Option Segment)
+      → Option·elim fields (unchanged k (refusedWith number)) (arrivingRead k clock) .connection .timer
+      ≡ rto.run (k .timer)
+      (cond (isTake (Option·elim fields (unchanged k (refusedWith number)) (arrivingRead k clock) .decision .answer))
+      (Option·elim fields [] (fedBy k clock)) [])
+  unfolding Option·elim arrivingRead judged
+  arrival-timer number none = refl
+  arrival-timer number (some s) = pick (ltb clock (k .timestamping .since))
+    where
+      pick : (b : Bool) → cond b (unchanged k (refusedWith 8)) (judged k clock s) .connection .timer
+          ≡ rto.run (k .timer)
+          (cond (isTake (cond b (unchanged k (refusedWith 8)) (judged k clock s) .decision .answer)) (fedBy k clock s) [])
+      pick true = refl
+      pick false = settled-timer s (decided (rows k clock s))
+
+called-timer : (k : Connection) (c : Call) → called k c .timer ≡ rto.run (k .timer) (timerCall k c)
+unfolding arriving sent windowOpened expired acknowledged
+called-timer k (arrival clock octets) = arrival-timer k clock (reading octets .number) (reading octets .fields)
+called-timer k (sending n) = refl
+called-timer k (window n) = refl
+called-timer k expiry = refl
+called-timer k acknowledgment = refl
+
+-- A take with a new ACK feeds its sample, whatever the timer is: said apart from what the list of calls is made of.
+pub sample-fed : (k : Connection) (clock : ℕ) (octets : List ℕ) (s : Segment) (value echoed : Stamp) → reading octets ≡ readAs s
+    → s .options .timestamps ≡ Timestamps.Pair value echoed → k .timestamping .active ≡ true → isNew (k .send) (s .ack .0) ≡ true
+    → isTake (arriving k clock octets .decision .answer) ≡ true
+    → arriving k clock octets .connection .timer
+    ≡ rto.called (k .timer) (rto.sample (roundTrip (stampAt clock (k .timestamping .offset)) (echoed .0)))
+unfolding fedBy sampleOf Option·elim
+sample-fed k clock octets s value echoed read stamps active new takes =
+    called-timer k (arrival clock octets) ∙ rw (takes, read, active, new, stamps)
+
+run-append : (t : Timer) (cs ds : List rto.Call) → rto.run t (cs ++ ds) ≡ rto.run (rto.run t cs) ds
+run-append t [] ds = refl
+run-append t (c ∷ cs) ds = run-append (rto.called t c) cs ds
+
+run-timer : (calls : List Call) (k : Connection) → run k calls .timer ≡ rto.run (k .timer) (timerCalls k calls)
+run-timer [] k = refl
+run-timer (c ∷ cs) k =
+    run-timer cs (called k c)
+    ∙ (ap (λ t. rto.run t (timerCalls (called k c) cs)) (called-timer k c)
+    ∙ sym (run-append (k .timer) (timerCall k c) (timerCalls (called k c) cs)))
+
+-- the timer is new at opening
+opening-timer : (own : Setup) (clock : ℕ) (octets : List ℕ) → opening own clock octets .connection .timer ≡ newTimer
+unfolding opening openingFrom recordFrom recordWith blank
+opening-timer own clock octets =
+    either New (exceedLimits (own .offers) (own .window)) _ _ (λ _. refl)
+    (λ _.
+    if-some New (reading octets .fields) _ (openingFrom own clock) refl
+    (λ syn. either New (isNotSyn syn) _ _ (λ _. refl) (λ _. either New (isWrongAck (own .iss .0) syn) _ _ (λ _. refl) (λ _. refl))))
+  where
+    New : Answer → Type 0
+    New a = a .connection .timer ≡ newTimer
+
+opened-timer : (k : Connection) → Opened k → k .timer ≡ newTimer
+opened-timer k o = sym (ap (λ (x : Connection). x .timer) (o .opens)) ∙ opening-timer (o .own) (o .clock) (o .syn)
+
+-- an opening, then any calls
+called-sound : (k : Connection) (c : Call) → Sound k → Sound (called k c)
+called-sound k (arrival clock octets) h = arriving-sound k h clock octets
+called-sound k (sending n) h = sent-sound k h n
+called-sound k (window n) h = window-sound k h n
+called-sound k expiry h = expired-sound k h
+called-sound k acknowledgment h = acknowledged-sound k h
+
+run-sound : (calls : List Call) (k : Connection) → Sound k → Sound (run k calls)
+run-sound [] k h = h
+run-sound (c ∷ cs) k h = run-sound cs (called k c) (called-sound k c h)
+
+pub sound-always : SoundAlways
+sound-always k o calls =
+    run-sound calls k (subst Sound (o .opens) (opening-sound (o .own) (o .clock) (o .syn)))
+
+pub timer-follows : TimerFollows
+timer-follows k o calls = run-timer calls k ∙ ap (λ t. rto.run t (timerCalls k calls)) (opened-timer k o)
+
+pub demand-3-in-record : Demand3
+unfolding Demand3 rto-demand.Demand3
+demand-3-in-record k o calls stands = rw (timer-follows k o calls) (demand-3 (timerCalls k calls) stands)
+
+-- The claim's premise can be met: a record is opened, and a segment is taken whose sample is 57 ms.
+abbrev timed : List Call
+timed = arrival 150 (octets 5000 1001 fin 9 (stamps 60 100) 500) ∷ []
+
+demand-3-in-record-worked : rto-demand.OnTime (run base timed .timer .timeout) (exactRun unset (timerCalls base timed))
+unfolding Demand3 fedCalls
+demand-3-in-record-worked =
+    demand-3-in-record base base-opened timed
+    (record {
+      before = [];
+      rtt = 57;
+      after = [];
+      split = ap (λ l. getD l 0 [] ++ []) (witnesses .8);
+      not-refused = omega arith;
+      last = tt;
+    })

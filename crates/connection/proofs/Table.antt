@@ -1,0 +1,132 @@
+-- Number n is given exactly when row n's condition holds and no earlier one does, and 0 when none holds. Assumes nothing.
+use mathlib.Core.Bool.{Bool, true, false, cond, not, _&&_, and-false, false≢true}
+use mathlib.Core.List.{List, [], _∷_, map}
+use mathlib.Core.Option.{Option·elim}
+use mathlib.Core.Path.{_≡_, refl, sym, ap, _∙_}
+use Prim.Native.Nat.{ℕ, _≤_}
+use lib.Dec.{eqb}
+use borrow.Author.Tests.{eqb-false, eqb-true, le-ltb, ne-eqb}
+use Rattle.laws.proofs.Choices.{neither}
+use Rattle.segment.specs.Options.{standsIn}
+use Rattle.segment.specs.Reading.{readAs, reading}
+use Rattle.segment.specs.declared.Segment.{Segment}
+use Rattle.connection.specs.declared.Connection.{Connection}
+use Rattle.connection.specs.Numbers.{Decision, take}
+use Rattle.connection.specs.Verdict.{Row, decided, firstHolds, isGiven, noneHolds, rows}
+use Rattle.connection.specs.Arriving.{arriving, arrivingRead, isTake, judged, settled, takenBy, unchanged}
+
+abbrev numbers : List Row → List ℕ
+numbers table = map (λ r. r .number) table
+
+-- no number is 0, none stands there twice, and no row takes
+abbrev Rows : List Row → Type 0
+Rows [] = Unit
+Rows (r ∷ rs) =
+    (eqb (r .number) 0 ≡ false) × (standsIn (r .number) (numbers rs) ≡ false) × (isTake (r .answer) ≡ false) × Rows rs
+
+abbrev decision : Row → Decision
+decision r = record { number = r .number; answer = r .answer }
+
+-- a number that no row has is not given by one
+absent : (n : ℕ) (rs : List Row) → standsIn n (numbers rs) ≡ false → firstHolds n rs ≡ false
+unfolding standsIn
+absent n [] e = refl
+absent n (r ∷ rs) e =
+    let tests = neither (eqb n (r .number)) (standsIn n (numbers rs)) e in
+    let other : eqb (r .number) n ≡ false = ne-eqb (r .number) n (λ q. eqb-false n (r .number) (tests .0) (sym q)) in
+    rw (other, absent n rs (tests .1)) (and-false (not (r .holds)))
+
+none-given : (table : List Row) → Rows table → eqb (decided table .number) 0 ≡ noneHolds table
+none-given [] d = refl
+none-given (r ∷ rs) d = pick (r .holds) (none-given rs (d .3))
+  where
+    pick : (h : Bool) → eqb (decided rs .number) 0 ≡ noneHolds rs
+        → eqb (cond h (decision r) (decided rs) .number) 0 ≡ not h && noneHolds rs
+    pick true later = d .0
+    pick false later = later
+
+number-given : (n : ℕ) → eqb n 0 ≡ false → (table : List Row) → Rows table → eqb (decided table .number) n ≡ firstHolds n table
+number-given n some [] d = ne-eqb 0 n (λ q. eqb-false n 0 some (sym q))
+number-given n some (r ∷ rs) d = pick (r .holds) (eqb (r .number) n) refl (number-given n some rs (d .3))
+  where
+    pick : (h t : Bool) → eqb (r .number) n ≡ t → eqb (decided rs .number) n ≡ firstHolds n rs
+        → eqb (cond h (decision r) (decided rs) .number) n ≡ cond t h (not h && firstHolds n rs)
+    pick true true e later = e
+    pick true false e later = e
+    pick false true e later =
+        later ∙ absent n rs (ap (λ x. standsIn x (numbers rs)) (sym (eqb-true (r .number) n e)) ∙ d .1)
+    pick false false e later = later
+
+given : (n : ℕ) (table : List Row) → Rows table → eqb (decided table .number) n ≡ isGiven n table
+given n table d = pick (eqb n 0) refl
+  where
+    pick : (z : Bool) → eqb n 0 ≡ z → eqb (decided table .number) n ≡ cond z (noneHolds table) (firstHolds n table)
+    pick true z = ap (λ x. eqb (decided table .number) x) (eqb-true n 0 z) ∙ none-given table d
+    pick false z = number-given n z table d
+
+-- only where no row holds is a segment taken
+taken-last : (table : List Row) → Rows table → isTake (decided table .answer) ≡ true → decided table ≡ record { number = 0; answer = take }
+taken-last [] d t = refl
+taken-last (r ∷ rs) d t = pick (r .holds) t (taken-last rs (d .3))
+  where
+    pick : (h : Bool) → isTake (cond h (decision r) (decided rs) .answer) ≡ true
+        → (isTake (decided rs .answer) ≡ true → decided rs ≡ record { number = 0; answer = take })
+        → cond h (decision r) (decided rs) ≡ record { number = 0; answer = take }
+    pick true t later = absurd (false≢true (sym (d .2) ∙ t))
+    pick false t later = later t
+
+module _ (k : Connection) (clock : ℕ) (s : Segment) where
+  table-rows : Rows (rows k clock s)
+  unfolding rows standsIn
+  table-rows = (
+    refl,
+    refl,
+    refl,
+    (
+      refl,
+      refl,
+      refl,
+      (
+        refl,
+        refl,
+        refl,
+        (
+          refl,
+          refl,
+          refl,
+          (
+            refl,
+            refl,
+            refl,
+            (
+              refl,
+              refl,
+              refl,
+              (
+                refl,
+                refl,
+                refl,
+                (refl, refl, refl, (refl, refl, refl, (refl, refl, refl, tt))),
+              ),
+            ),
+          ),
+        ),
+      ),
+    ),
+  )
+
+  -- the answer carries what the table decided
+  pub judged-decision : judged k clock s .decision ≡ decided (rows k clock s)
+  unfolding judged settled takenBy
+  judged-decision = pick (isTake (decided (rows k clock s) .answer)) refl
+    where
+      pick : (t : Bool) → isTake (decided (rows k clock s) .answer) ≡ t
+          → cond t (takenBy k clock s) (unchanged k (decided (rows k clock s))) .decision ≡ decided (rows k clock s)
+      pick true t = sym (taken-last (rows k clock s) table-rows t)
+      pick false t = refl
+
+  pub number-of-row : (octets : List ℕ) → reading octets ≡ readAs s → k .timestamping .since ≤ clock → (n : ℕ)
+      → eqb (arriving k clock octets .decision .number) n ≡ isGiven n (rows k clock s)
+  unfolding arriving arrivingRead Option·elim
+  number-of-row octets read timely n =
+      rw (read, le-ltb clock (k .timestamping .since) timely, judged-decision) (given n (rows k clock s) table-rows)

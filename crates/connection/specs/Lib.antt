@@ -1,0 +1,11 @@
+pub mod Numbers
+pub mod Record
+pub mod Opening
+pub mod Verdict
+pub mod Taking
+pub mod Arriving
+pub mod Operations
+pub mod Calls
+pub mod Demand
+pub mod Cases
+pub mod Witnesses

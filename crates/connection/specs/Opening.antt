@@ -1,0 +1,107 @@
+-- Opening a record (document 01, "Opening", and E9, E10, E11).
+use mathlib.Core.Bool.{Bool, true, false, cond, not, _&&_, _||_}
+use mathlib.Core.List.{List}
+use mathlib.Core.Option.{Option·elim}
+use Prim.Native.Nat.{ℕ}
+use lib.Dec.{eqb}
+use Rattle.serial.specs.Serial.{movedBy}
+use Rattle.serial.specs.declared.Stamp.{Stamp}
+use Rattle.offers.specs.Offers.{exceedLimits, inForce}
+use Rattle.offers.specs.declared.InForce.{InForce}
+use Rattle.offers.specs.declared.Offers.{Offers}
+use Rattle.offers.specs.declared.Scale.{Scale}
+use Rattle.receive.specs.Window as receive
+use Rattle.rto.specs.Timer.{newTimer}
+use Rattle.segment.specs.Reading.{reading}
+use Rattle.segment.specs.declared.Mss.{Mss}
+use Rattle.segment.specs.declared.Segment.{Segment}
+use Rattle.segment.specs.declared.Timestamps.{Timestamps}
+use Rattle.segment.specs.declared.WindowScale.{WindowScale}
+use Rattle.send.specs.Send as send
+use Rattle.send.specs.declared.Seg.{Seg}
+use Rattle.connection.specs.declared.Connection.{Connection}
+use Rattle.connection.specs.declared.OpenAnswer.{OpenAnswer}
+use Rattle.connection.specs.declared.Setup.{Setup}
+use Rattle.connection.specs.declared.Timestamping.{Timestamping}
+use Rattle.connection.specs.Numbers.{openNumber}
+use Rattle.connection.specs.Record.{Answer, blank}
+
+-- whether the segment has timestamps, and its TSval, 0 where it has none
+abbrev pub hasTimestamps : Timestamps → Bool
+hasTimestamps Timestamps.Absent = false
+hasTimestamps (Timestamps.Pair value echoed) = true
+
+abbrev pub valueOf : Timestamps → Stamp
+valueOf Timestamps.Absent = record { 0 = 0 }
+valueOf (Timestamps.Pair value echoed) = value
+
+-- what the peer's SYN offers
+abbrev pub scaleOf : WindowScale → Scale
+scaleOf WindowScale.Absent = Scale.Absent
+scaleOf (WindowScale.Shift shift) = Scale.Shift shift
+
+abbrev pub peerOffers : Segment → Offers
+peerOffers syn = record {
+  scale = scaleOf (syn .options .scale);
+  timestamps = hasTimestamps (syn .options .timestamps);
+  sack = syn .options .permitted;
+}
+
+-- what a segment tells the send side
+abbrev pub segOf : Segment → Seg
+segOf s = record { seq = s .seq; ack = s .ack; window = s .window }
+
+-- E10: opening segment lacks SYN, or has RST
+unfoldable pub isNotSyn : Segment → Bool
+isNotSyn syn = not (syn .flags .syn) || syn .flags .rst
+
+-- E11: opening segment has ACK and its ACK is not ISS+1
+unfoldable pub isWrongAck : ℕ → Segment → Bool
+isWrongAck iss syn = syn .flags .ack && not (eqb (syn .ack .0) (movedBy iss 1))
+
+-- TS.Recent = TSval (0 if not in force), set at this clock
+unfoldable pub timestampingFrom : Bool → ℕ → ℕ → Timestamps → Timestamping
+timestampingFrom active offset clock timestamps = record {
+  active = active;
+  recent = cond active (valueOf timestamps) (record { 0 = 0 });
+  since = clock;
+  offset = offset;
+}
+
+-- no MSS means 536
+abbrev pub mssOf : Mss → ℕ
+mssOf Mss.Absent = 536
+mssOf (Mss.Octets n) = n
+
+-- RCV.NXT = Last.ACK.sent = SEQ+1. No ranges are held; the timer is new. The rest goes by what is in force.
+unfoldable pub recordWith : InForce → Setup → ℕ → Segment → Connection
+recordWith force own clock syn = record {
+  receive = receive.opened (movedBy (syn .seq .0) 1) (own .window) (force .shifts .receive);
+  send = send.opened (own .iss .0) (force .shifts .send) (segOf syn) (syn .flags .ack);
+  timestamping = timestampingFrom (force .timestamps) (own .offset) clock (syn .options .timestamps);
+  sack = force .sack;
+  mss = mssOf (syn .options .mss);
+  timer = newTimer;
+}
+
+unfoldable pub recordFrom : Setup → ℕ → Segment → Connection
+recordFrom own clock syn = recordWith (inForce (own .offers) (peerOffers syn)) own clock syn
+
+-- a refused opening answers its number beside the blank record
+abbrev pub refusedOpening : ℕ → Answer
+refusedOpening number = record { number = number; connection = blank }
+
+unfoldable pub openingFrom : Setup → ℕ → Segment → Answer
+openingFrom own clock syn =
+    cond (isNotSyn syn) (refusedOpening 10)
+    (cond (isWrongAck (own .iss .0) syn) (refusedOpening 11)
+    (record { number = 0; connection = recordFrom own clock syn }))
+
+-- E9, reading, E10, E11
+unfoldable pub opening : Setup → ℕ → List ℕ → Answer
+opening own clock octets =
+    cond (exceedLimits (own .offers) (own .window)) (refusedOpening 9)
+    (Option·elim (reading octets .fields) (refusedOpening (reading octets .number)) (openingFrom own clock))
+
+abbrev pub shownOpen : OpenAnswer → Answer
+shownOpen a = record { number = openNumber (a .outcome); connection = a .connection }

@@ -1,0 +1,75 @@
+-- The verdict on an arriving segment (document 01, "Verdicts, in this order").
+use mathlib.Core.Bool.{Bool, true, false, cond, not, _&&_}
+use mathlib.Core.List.{List, [], _∷_}
+use Prim.Native.Nat.{ℕ, _-_}
+use lib.Dec.{eqb, ltb}
+use Rattle.serial.specs.Serial.{isBefore}
+use Rattle.receive.specs.Window.{acceptable, lacksRoom}
+use Rattle.segment.specs.declared.Segment.{Segment}
+use Rattle.segment.specs.declared.Timestamps.{Timestamps}
+use Rattle.send.specs.Send.{isUnsent}
+use Rattle.connection.specs.declared.Connection.{Connection}
+use Rattle.connection.specs.declared.Timestamping.{Timestamping}
+use Rattle.connection.specs.Numbers.{Answer, Decision, dropSilent, dropWithAck, reset, take}
+use Rattle.connection.specs.Opening.{hasTimestamps}
+
+-- document 01's "outdated": more than 2,073,600,000 ms (24 days) since TS.Recent was set
+unfoldable pub outdated : Timestamping → ℕ → Bool
+outdated t clock = ltb 2073600000 (clock - t .since)
+
+-- TSval before TS.Recent
+unfoldable pub valueBefore : ℕ → Timestamps → Bool
+valueBefore recent Timestamps.Absent = false
+valueBefore recent (Timestamps.Pair value echoed) = isBefore (value .0) recent
+
+-- timestamps in force, none here, no RST
+unfoldable pub lacksTimestamp : Timestamping → Segment → Bool
+lacksTimestamp t s = t .active && (not (hasTimestamps (s .options .timestamps)) && not (s .flags .rst))
+
+-- timestamps in force, no RST, TSval before TS.Recent, TS.Recent not outdated
+unfoldable pub hasOldTimestamp : Timestamping → ℕ → Segment → Bool
+hasOldTimestamp t clock s =
+    t .active && (not (s .flags .rst) && (valueBefore (t .recent .0) (s .options .timestamps) && not (outdated t clock)))
+
+abbrev pub isAcceptable : Connection → Segment → Bool
+isAcceptable k s = acceptable (k .receive) (s .seq .0) (s .len)
+
+-- a row of the table
+pub record Row : Type 0 where
+  pub number : ℕ
+  pub holds : Bool
+  pub answer : Answer
+
+abbrev pub row : ℕ → Bool → Answer → Row
+row number holds answer = record { number = number; holds = holds; answer = answer }
+
+unfoldable pub rows : Connection → ℕ → Segment → List Row
+rows k clock s =
+    row 21 (lacksTimestamp (k .timestamping) s) dropSilent
+    ∷ row 22 (hasOldTimestamp (k .timestamping) clock s) dropWithAck
+    ∷ row 23 (not (isAcceptable k s) && s .flags .rst) dropSilent
+    ∷ row 24 (not (isAcceptable k s) && not (s .flags .rst)) dropWithAck
+    ∷ row 25 (s .flags .rst && eqb (s .seq .0) (k .receive .nxt .0)) reset
+    ∷ row 26 (s .flags .rst) dropWithAck
+    ∷ row 27 (s .flags .syn) dropWithAck
+    ∷ row 28 (not (s .flags .ack)) dropSilent
+    ∷ row 29 (isUnsent (k .send) (s .ack .0)) dropWithAck
+    ∷ row 30 (lacksRoom (k .receive) (s .seq .0) (s .len)) dropWithAck
+    ∷ []
+
+-- the first row whose condition holds decides; otherwise take
+abbrev pub decided : List Row → Decision
+decided [] = record { number = 0; answer = take }
+decided (r ∷ rs) = cond (r .holds) (record { number = r .number; answer = r .answer }) (decided rs)
+
+-- Whether number n is to be given: row n's condition holds and no earlier one does. Number 0 is given where no condition holds.
+abbrev pub noneHolds : List Row → Bool
+noneHolds [] = true
+noneHolds (r ∷ rs) = not (r .holds) && noneHolds rs
+
+abbrev pub firstHolds : ℕ → List Row → Bool
+firstHolds n [] = false
+firstHolds n (r ∷ rs) = cond (eqb (r .number) n) (r .holds) (not (r .holds) && firstHolds n rs)
+
+abbrev pub isGiven : ℕ → List Row → Bool
+isGiven n table = cond (eqb n 0) (noneHolds table) (firstHolds n table)

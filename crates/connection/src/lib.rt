@@ -1,0 +1,353 @@
+// The record of one connection: opening it, arriving segments, octets sent, the receive window, expiry.
+mod judging;
+mod listing;
+mod opening;
+mod taking;
+mod timestamps;
+
+ghost use mathlib.Core.Path.{_≡_};
+ghost use Rattle.connection.specs.Numbers.{arriveRefusalNumber, openNumber, openRefusalNumber, outcomeOf, reasonNumber, verdictOf};
+ghost use Rattle.connection.specs.Record.{Sound};
+ghost use Rattle.connection.specs.Opening.{opening, shownOpen};
+ghost use Rattle.connection.specs.Arriving.{arriving, arrivingRead, isTake, shown, takenBy, unchanged};
+ghost use Rattle.connection.specs.Operations.{expired, sent, shownSent, shownWindow, windowOpened};
+use offers::Offers;
+use receive::Part;
+use receive::Receive;
+use receive::WindowOutcome;
+use rto::Timer;
+use segment::Reading;
+use segment::Refusal;
+use segment::SackBlocks;
+use segment::Segment;
+use send::Send;
+use send::SentOutcome;
+use serial::Seq;
+use serial::Stamp;
+
+// The timestamps of a connection.
+pub struct Timestamping {
+    // Whether they are in force.
+    pub active: bool,
+    // TS.Recent, and the clock at which it was last set.
+    pub recent: Stamp,
+    pub since: u64,
+    // What is added to the clock to make our timestamp.
+    pub offset: u32,
+}
+
+pub struct Connection {
+    pub receive: Receive,
+    pub send: Send,
+    pub timestamping: Timestamping,
+    // Whether SACK is in force.
+    pub sack: bool,
+    // The peer's maximum segment size.
+    pub mss: u16,
+    pub timer: Timer,
+}
+
+// What an opening is given beside the clock and the peer's SYN segment.
+pub struct Setup {
+    pub iss: Seq,
+    pub offers: Offers,
+    // The first receive window.
+    pub window: u32,
+    // The offset of our timestamps.
+    pub offset: u32,
+}
+
+// Why an opening is refused.
+pub enum OpenRefusal {
+    // E9.
+    ExceededLimits,
+    // E1 to E6.
+    Segment(Refusal),
+    // E10.
+    NotSyn,
+    // E11.
+    WrongAck,
+}
+
+pub enum OpenOutcome {
+    Opened,
+    Refused(OpenRefusal),
+}
+
+// Where the opening is refused, the connection is a blank one, the same for every refusal.
+pub struct OpenAnswer {
+    pub outcome: OpenOutcome,
+    pub connection: Connection,
+}
+
+// Why a segment is dropped.
+pub enum Reason {
+    // 21 and 22.
+    TimestampMissing,
+    TimestampOld,
+    // 23 and 24.
+    ResetOutside,
+    Outside,
+    // 26 to 30.
+    ResetInside,
+    SynInside,
+    AckMissing,
+    AckUnsent,
+    NoRoom,
+}
+
+// What becomes of an arriving segment.
+pub enum Verdict {
+    Take,
+    // 25.
+    Reset,
+    // Dropped, in silence or with an acknowledgment sent.
+    Silent(Reason),
+    WithAck(Reason),
+}
+
+// Why an arriving segment is refused.
+pub enum ArriveRefusal {
+    // E1 to E6.
+    Segment(Refusal),
+    // E8.
+    ClockBack,
+}
+
+pub enum ArriveOutcome {
+    Judged(Verdict),
+    Refused(ArriveRefusal),
+}
+
+// The answer to an arriving segment. Only a take has a new part, a FIN in it, listed SACK blocks and a changed connection.
+pub struct Arrival {
+    pub outcome: ArriveOutcome,
+    pub part: Part,
+    // Whether FIN lies in the part.
+    pub fin: bool,
+    pub blocks: SackBlocks,
+    pub connection: Connection,
+}
+
+// The answer to octets noted as sent, and to a new receive window: where it is refused, the connection is the one handed in.
+pub struct SentAnswer {
+    pub outcome: SentOutcome,
+    pub connection: Connection,
+}
+
+pub struct WindowAnswer {
+    pub outcome: WindowOutcome,
+    pub connection: Connection,
+}
+
+// Document 01's number of each refusal, reason, verdict and outcome.
+impl OpenRefusal {
+    pub fn number(self) -> u8
+        ensures { λ r. ⌜ r ≡ openRefusalNumber self ⌝ }
+    {
+        match self {
+            OpenRefusal::ExceededLimits => 9,
+            OpenRefusal::Segment(why) => why.number(),
+            OpenRefusal::NotSyn => 10,
+            OpenRefusal::WrongAck => 11,
+        }
+    }
+}
+
+impl OpenOutcome {
+    pub fn number(self) -> u8
+        ensures { λ r. ⌜ r ≡ openNumber self ⌝ }
+    {
+        match self {
+            OpenOutcome::Opened => 0,
+            OpenOutcome::Refused(why) => why.number(),
+        }
+    }
+}
+
+impl Reason {
+    pub fn number(self) -> u8
+        ensures { λ r. ⌜ r ≡ reasonNumber self ⌝ }
+    {
+        match self {
+            Reason::TimestampMissing => 21,
+            Reason::TimestampOld => 22,
+            Reason::ResetOutside => 23,
+            Reason::Outside => 24,
+            Reason::ResetInside => 26,
+            Reason::SynInside => 27,
+            Reason::AckMissing => 28,
+            Reason::AckUnsent => 29,
+            Reason::NoRoom => 30,
+        }
+    }
+}
+
+impl Verdict {
+    pub fn number(self) -> u8
+        ensures { λ r. ⌜ r ≡ verdictOf self .number ⌝ }
+    {
+        match self {
+            Verdict::Take => 0,
+            Verdict::Reset => 25,
+            Verdict::Silent(why) => why.number(),
+            Verdict::WithAck(why) => why.number(),
+        }
+    }
+}
+
+impl ArriveRefusal {
+    pub fn number(self) -> u8
+        ensures { λ r. ⌜ r ≡ arriveRefusalNumber self ⌝ }
+    {
+        match self {
+            ArriveRefusal::Segment(why) => why.number(),
+            ArriveRefusal::ClockBack => 8,
+        }
+    }
+}
+
+impl ArriveOutcome {
+    pub fn number(self) -> u8
+        ensures { λ r. ⌜ r ≡ outcomeOf self .number ⌝ }
+    {
+        match self {
+            ArriveOutcome::Judged(verdict) => verdict.number(),
+            ArriveOutcome::Refused(why) => why.number(),
+        }
+    }
+}
+
+impl Connection {
+    // Opens a record from the peer's SYN segment: E9, reading, E10, E11.
+    pub fn open(own: Setup, clock: u64, syn: &[u8]) -> OpenAnswer
+        ensures answer { λ r. ⌜ shownOpen r ≡ opening own clock (now (syn .entry)) ⌝ }
+        ensures sound { λ r. ⌜ Sound (r .connection) ⌝ }
+    {
+        let offers = own.offers;
+        if offers.exceed_limits(own.window) {
+            return opening::refused(OpenRefusal::ExceededLimits);
+        }
+        let reading = segment::read(syn);
+        match reading {
+            Reading::Refused(why) => opening::refused(OpenRefusal::Segment(why)),
+            Reading::Segment(whole) => opening::open_from(own, clock, whole),
+        }
+    }
+
+    // The answer to a segment that arrives at this clock: reading, E8, the verdict, and what taking does.
+    pub fn arrive(self, clock: u64, segment: &[u8]) -> Arrival
+        requires { ⌜ Sound self ⌝ }
+        ensures answer { λ r. ⌜ shown r ≡ arriving self clock (now (segment .entry)) ⌝ }
+        ensures sound { λ r. ⌜ Sound (r .connection) ⌝ }
+    {
+        let reading = segment::read(segment);
+        match reading {
+            Reading::Refused(why) => {
+                self.unchanged(ArriveOutcome::Refused(ArriveRefusal::Segment(why)))
+            }
+            Reading::Segment(whole) => self.arrive_read(clock, whole),
+        }
+    }
+
+    // Notes that `n` octets were sent.
+    pub fn note_sent(self, n: u32) -> SentAnswer
+        requires { ⌜ Sound self ⌝ }
+        ensures answer { λ r. ⌜ shownSent r ≡ sent self n ⌝ }
+        ensures sound { λ r. ⌜ Sound (r .connection) ⌝ }
+    {
+        let answer = self.send.note_sent(n);
+        let outcome = answer.outcome;
+        let send = answer.send;
+        SentAnswer {
+            outcome,
+            connection: Connection { send, ..self },
+        }
+    }
+
+    // Opens the receive window.
+    pub fn open_window(self, window: u32) -> WindowAnswer
+        requires { ⌜ Sound self ⌝ }
+        ensures answer { λ r. ⌜ shownWindow r ≡ windowOpened self window ⌝ }
+        ensures sound { λ r. ⌜ Sound (r .connection) ⌝ }
+    {
+        let answer = self.receive.open_window(window);
+        let outcome = answer.outcome;
+        let receive = answer.receive;
+        WindowAnswer {
+            outcome,
+            connection: Connection { receive, ..self },
+        }
+    }
+
+    // The record after its timer expired.
+    pub fn expire(self) -> Connection
+        requires { ⌜ Sound self ⌝ }
+        ensures expired { λ r. ⌜ r ≡ expired self ⌝ }
+        ensures sound { λ r. ⌜ Sound r ⌝ }
+    {
+        let timer = self.timer.expire();
+        Connection { timer, ..self }
+    }
+
+    // E8, then the verdict.
+    fn arrive_read(self, clock: u64, s: Segment) -> Arrival
+        requires { ⌜ Sound self ⌝ }
+        ensures { λ r. ⌜ shown r ≡ arrivingRead self clock s ⌝ }
+    {
+        if clock < self.timestamping.since {
+            return self.unchanged(ArriveOutcome::Refused(ArriveRefusal::ClockBack));
+        }
+        let verdict = judging::judge(self, clock, s);
+        if is_take(verdict) {
+            return self.take(clock, s);
+        }
+        self.unchanged(ArriveOutcome::Judged(verdict))
+    }
+
+    fn take(self, clock: u64, s: Segment) -> Arrival
+        requires { ⌜ Sound self ⌝ }
+        ensures { λ r. ⌜ shown r ≡ takenBy self clock s ⌝ }
+    {
+        let options = s.options;
+        let reported = options.blocks;
+        let part = self.receive.new_part(s.seq, s.len);
+        let fin = self.receive.has_fin(s.seq, s.len, s.flags.fin);
+        let connection = taking::record_after(self, clock, s);
+        let blocks = listing::listed(connection.sack, connection.send, reported);
+        let outcome = ArriveOutcome::Judged(Verdict::Take);
+        Arrival {
+            outcome,
+            part,
+            fin,
+            blocks,
+            connection,
+        }
+    }
+
+    // The answer that leaves the record as it is.
+    fn unchanged(self, outcome: ArriveOutcome) -> Arrival
+        ensures { λ r. ⌜ shown r ≡ unchanged self (outcomeOf outcome) ⌝ }
+    {
+        let part = Part { from: 0, to: 0 };
+        let blocks = SackBlocks::Absent;
+        Arrival {
+            outcome,
+            part,
+            fin: false,
+            blocks,
+            connection: self,
+        }
+    }
+}
+
+fn is_take(verdict: Verdict) -> bool
+    ensures { λ r. ⌜ r ≡ isTake (verdictOf verdict .answer) ⌝ }
+{
+    match verdict {
+        Verdict::Take => true,
+        Verdict::Reset => false,
+        Verdict::Silent(_) => false,
+        Verdict::WithAck(_) => false,
+    }
+}

@@ -1,0 +1,175 @@
+// Opening a record from the peer's SYN segment.
+ghost use mathlib.Core.Path.{_≡_};
+ghost use Rattle.connection.specs.Numbers.{openRefusalNumber};
+ghost use Rattle.connection.specs.Opening.{isNotSyn, isWrongAck, mssOf, openingFrom, peerOffers, recordFrom, recordWith, refusedOpening, scaleOf, shownOpen};
+ghost use Rattle.connection.specs.Record.{blank};
+use super::Connection;
+use super::OpenAnswer;
+use super::OpenOutcome;
+use super::OpenRefusal;
+use super::Setup;
+use super::Timestamping;
+use super::taking::seg_of;
+use super::timestamps;
+use offers::InForce;
+use offers::Offers;
+use offers::Scale;
+use receive::Receive;
+use rto::Timer;
+use segment::Mss;
+use segment::Segment;
+use segment::WindowScale;
+use send::Send;
+use serial::Seq;
+use serial::Stamp;
+
+// The MSS of a SYN that has none.
+const DEFAULT_MSS: u16 = 536;
+
+fn mss(option: Mss) -> u16
+    ensures { λ r. ⌜ r ≡ mssOf option ⌝ }
+{
+    match option {
+        Mss::Absent => DEFAULT_MSS,
+        Mss::Octets(octets) => octets,
+    }
+}
+
+fn scale(option: WindowScale) -> Scale
+    ensures { λ r. ⌜ r ≡ scaleOf option ⌝ }
+{
+    match option {
+        WindowScale::Absent => Scale::Absent,
+        WindowScale::Shift(shift) => Scale::Shift(shift),
+    }
+}
+
+// What the peer's SYN offers.
+fn peer_offers(syn: Segment) -> Offers
+    ensures { λ r. ⌜ r ≡ peerOffers syn ⌝ }
+{
+    let options = syn.options;
+    let window_scale = options.scale;
+    let pair = options.timestamps;
+    let scale = scale(window_scale);
+    let timestamps = timestamps::are_present(pair);
+    let sack = options.permitted;
+    Offers {
+        scale,
+        timestamps,
+        sack,
+    }
+}
+
+// E10.
+fn is_not_syn(syn: Segment) -> bool
+    ensures { λ r. ⌜ r ≡ isNotSyn syn ⌝ }
+{
+    if syn.flags.syn {
+        return syn.flags.rst;
+    }
+    true
+}
+
+// E11.
+fn is_wrong_ack(iss: Seq, syn: Segment) -> bool
+    ensures { λ r. ⌜ r ≡ isWrongAck (iss .0) syn ⌝ }
+{
+    if syn.flags.ack {
+        return syn.ack.0 != iss.moved(1).0;
+    }
+    false
+}
+
+// The record of an opening with this in force.
+fn record_with(force: InForce, own: Setup, clock: u64, syn: Segment) -> Connection
+    ensures { λ r. ⌜ r ≡ recordWith force own clock syn ⌝ }
+{
+    let options = syn.options;
+    let pair = options.timestamps;
+    let mss_option = options.mss;
+    let receive = Receive::new(syn.seq.moved(1), own.window, force.shifts.receive);
+    let seg = seg_of(syn);
+    let send = Send::new(own.iss, force.shifts.send, seg, syn.flags.ack);
+    let timestamping = timestamps::opened(force.timestamps, own.offset, clock, pair);
+    let sack = force.sack;
+    let mss = mss(mss_option);
+    let timer = Timer::new();
+    Connection {
+        receive,
+        send,
+        timestamping,
+        sack,
+        mss,
+        timer,
+    }
+}
+
+fn record_from(own: Setup, clock: u64, syn: Segment) -> Connection
+    ensures { λ r. ⌜ r ≡ recordFrom own clock syn ⌝ }
+{
+    let offers = own.offers;
+    let peer = peer_offers(syn);
+    let force = offers.in_force(peer);
+    record_with(force, own, clock, syn)
+}
+
+fn blank_record() -> Connection
+    ensures { λ r. ⌜ r ≡ blank ⌝ }
+{
+    let zero = Seq(0);
+    let receive = Receive::new(zero, 0, 0);
+    let send = Send {
+        una: zero,
+        nxt: zero,
+        window: 0,
+        shift: 0,
+        wl1: zero,
+        wl2: zero,
+    };
+    let recent = Stamp(0);
+    let timestamping = Timestamping {
+        active: false,
+        recent,
+        since: 0,
+        offset: 0,
+    };
+    let timer = Timer::new();
+    Connection {
+        receive,
+        send,
+        timestamping,
+        sack: false,
+        mss: 0,
+        timer,
+    }
+}
+
+pub fn refused(why: OpenRefusal) -> OpenAnswer
+    ensures { λ r. ⌜ shownOpen r ≡ refusedOpening (openRefusalNumber why) ⌝ }
+{
+    let outcome = OpenOutcome::Refused(why);
+    let connection = blank_record();
+    OpenAnswer {
+        outcome,
+        connection,
+    }
+}
+
+// E10, E11, then the record.
+pub fn open_from(own: Setup, clock: u64, syn: Segment) -> OpenAnswer
+    ensures { λ r. ⌜ shownOpen r ≡ openingFrom own clock syn ⌝ }
+{
+    if is_not_syn(syn) {
+        return refused(OpenRefusal::NotSyn);
+    }
+    if is_wrong_ack(own.iss, syn) {
+        return refused(OpenRefusal::WrongAck);
+    }
+    let outcome = OpenOutcome::Opened;
+    let connection = record_from(own, clock, syn);
+    OpenAnswer {
+        outcome,
+        connection,
+    }
+}

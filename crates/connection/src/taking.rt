@@ -1,0 +1,73 @@
+// What taking a segment does to a record.
+ghost use mathlib.Core.Path.{_≡_};
+ghost use Rattle.rto.specs.Calls.{run};
+ghost use Rattle.connection.specs.Opening.{segOf};
+ghost use Rattle.connection.specs.Record.{Sound};
+ghost use Rattle.connection.specs.Taking.{fedBy, recordAfter, sampleOf};
+use super::Connection;
+use super::Timestamping;
+use super::timestamps;
+use rto::Timer;
+use segment::Segment;
+use segment::Timestamps;
+use send::Seg;
+use serial::Stamp;
+
+// What a segment tells the send side.
+pub fn seg_of(s: Segment) -> Seg
+    ensures { λ r. ⌜ r ≡ segOf s ⌝ }
+{
+    let seq = s.seq;
+    let ack = s.ack;
+    let window = s.window;
+    Seg { seq, ack, window }
+}
+
+// The timer after the sample that an echoed timestamp gives.
+fn fed(timer: Timer, t: Timestamping, clock: u64, timestamps: Timestamps) -> Timer
+    ensures { λ r. ⌜ r ≡ run timer (sampleOf t clock timestamps) ⌝ }
+{
+    let Timestamps::Pair(_, echoed) = timestamps else {
+        return timer;
+    };
+    let rtt = Stamp::at(clock, t.offset).round_trip(echoed);
+    timer.feed(rtt)
+}
+
+// The timer after a take: a new ACK with timestamps gives a sample.
+fn timer_after(k: Connection, clock: u64, s: Segment) -> Timer
+    ensures { λ r. ⌜ r ≡ run (k .timer) (fedBy k clock s) ⌝ }
+{
+    let timer = k.timer;
+    let timestamping = k.timestamping;
+    if !timestamping.active {
+        return timer;
+    }
+    if k.send.is_new(s.ack) {
+        let options = s.options;
+        let timestamps = options.timestamps;
+        return fed(timer, timestamping, clock, timestamps);
+    }
+    timer
+}
+
+// The record after a segment is taken.
+pub fn record_after(k: Connection, clock: u64, s: Segment) -> Connection
+    requires { ⌜ Sound k ⌝ }
+    ensures { λ r. ⌜ r ≡ recordAfter k clock s ⌝ }
+{
+    let options = s.options;
+    let timestamps = options.timestamps;
+    let receive = k.receive.take(s.seq, s.len);
+    let seg = seg_of(s);
+    let send = k.send.take(seg);
+    let timestamping = timestamps::after(k.timestamping, clock, k.receive.acked, s.seq, timestamps);
+    let timer = timer_after(k, clock, s);
+    Connection {
+        receive,
+        send,
+        timestamping,
+        timer,
+        ..k
+    }
+}
