@@ -3,6 +3,7 @@ use Prim.Native.Nat.{ℕ, _+_, _*_, _/_}
 use mathlib.Core.Bool.{Bool, true, false}
 use mathlib.Core.List.{List, [], _∷_, _++_}
 use lib.ListN.{length, replicate}
+use Rattle.serial.specs.Serial.{range}
 use Rattle.serial.specs.declared.Range.{Range}
 use Rattle.octets.specs.Octets.{bigEndian}
 use Rattle.offers.specs.declared.Scale.{Scale}
@@ -70,10 +71,7 @@ abbrev pub setup : ℕ → Scale → ℕ → Setup
 setup iss scale first =
     record { iss = record { 0 = iss }; offers = record { scale = scale; timestamps = false; sack = false }; window = first; offset = 7 }
 
--- records, field by field
-abbrev pub range : ℕ → ℕ → Range
-range left right = record { left = record { 0 = left }; right = record { 0 = right } }
-
+-- a new timer
 abbrev pub newly : Timer
 newly = record { srtt = 0; rttvar = 0; sampled = false; timeout = 1000 }
 

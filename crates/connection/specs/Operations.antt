@@ -60,7 +60,7 @@ windowOpened k window = record {
 abbrev pub shownWindow : WindowAnswer → Answer
 shownWindow a = record { number = receive.numberOf (a .outcome); connection = a .connection }
 
--- expiry segOf to a record changes only its timer
+-- expiry told to a record changes only its timer
 unfoldable pub expired : Connection → Connection
 expired k = withTimer k (rto.expired (k .timer))
 

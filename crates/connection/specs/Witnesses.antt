@@ -7,7 +7,7 @@ use mathlib.Core.List.{List, [], _∷_, _++_, map}
 use mathlib.Core.Option.{Option·elim}
 use mathlib.Core.Path.{_≡_, refl, ap}
 use lib.ListN.{getD, replicate}
-use Rattle.serial.specs.Serial.{distanceOf, offsetOf}
+use Rattle.serial.specs.Serial.{distanceOf, offsetOf, range}
 use Rattle.serial.specs.declared.Range.{Range}
 use Rattle.octets.specs.Octets.{bigEndian, numberAt}
 use Rattle.offers.specs.Offers.{exceedLimits, inForce, shiftsInForce}
@@ -36,7 +36,7 @@ use Rattle.connection.specs.Taking.{fedBy, isRecorded, listed, recordAft
 use Rattle.connection.specs.Arriving.{Arrival, arriving, arrivingRead, judged, settled, takenBy}
 use Rattle.connection.specs.Operations.{acknowledged, expired, sent, windowOpened}
 use Rattle.connection.specs.Calls.{Call, Opened, acknowledgment, arrival, called, expiry, run, sending, timerCall, timerCalls, window}
-use Rattle.connection.specs.Cases.{ack, answer, answered, bare, base, behind, connected, decision, fin, fourBlocks, full, left, newly, octets, outstanding, own, plain, range, receiveSide, recorded, rst, sacks, sampled, sendSide, setup, seven, stamps, syn, synOptions, unacknowledged, unscaled, unscaledReceive, unscaledSend, zeroWindow}
+use Rattle.connection.specs.Cases.{ack, answer, answered, bare, base, behind, connected, decision, fin, fourBlocks, full, left, newly, octets, outstanding, own, plain, receiveSide, recorded, rst, sacks, sampled, sendSide, setup, seven, stamps, syn, synOptions, unacknowledged, unscaled, unscaledReceive, unscaledSend, zeroWindow}
 
 -- the enums
 pub outcomes : List (ArriveOutcome × Decision)

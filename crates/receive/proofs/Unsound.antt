@@ -1,18 +1,13 @@
 -- Ranges that are not sound, one for each thing that soundness says of them. Assumes nothing.
-use mathlib.Core.List.{List, [], _∷_}
+use mathlib.Core.List.{[], _∷_}
 use mathlib.Core.Logic.{inl, inr}
-use Prim.Native.Nat.{ℕ}
 use native.Mathlib.Omega.{arith}
-use Rattle.serial.specs.Serial.{offsetOf}
-use Rattle.serial.specs.declared.Range.{Range}
+use Rattle.serial.specs.Serial.{offsetOf, range}
 use Rattle.laws.specs.Lists.{Each, EachTwo}
-use Rattle.laws.specs.Lists.Each.{none, more}
-use Rattle.laws.specs.Lists.EachTwo.{no-two, more-two}
+use Rattle.laws.specs.Lists.Each.{more}
+use Rattle.laws.specs.Lists.EachTwo.{more-two}
 use Rattle.receive.specs.Ranges.{leftOf, rightOf}
 use Rattle.receive.specs.Sound.{Apart, Inside, SoundRanges}
-
-abbrev range : ℕ → ℕ → Range
-range left right = record { left = record { 0 = left }; right = record { 0 = right } }
 
 -- at RCV.NXT 1000 with a window of 300: adjacent, at RCV.NXT, empty, past the window
 pub adjacent-unsound : SoundRanges 1000 300 (range 1110 1120 ∷ range 1100 1110 ∷ []) → ⊥

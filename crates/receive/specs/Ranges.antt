@@ -5,7 +5,7 @@ use mathlib.Core.List.{List, [], _∷_, _++_}
 use Prim.Native.Nat.{ℕ, _-_, min, max}
 use lib.Dec.{eqb, leb, ltb}
 use lib.ListN.{length, replicate, take}
-use Rattle.serial.specs.Serial.{movedBy, offsetOf}
+use Rattle.serial.specs.Serial.{movedBy, offsetOf, range}
 use Rattle.serial.specs.declared.Range.{Range}
 use Rattle.receive.specs.declared.Held.{Held}
 use Rattle.receive.specs.declared.Part.{Part}
@@ -13,7 +13,7 @@ use Rattle.laws.specs.Lists.{any, filter}
 
 -- what stands in a slot that holds no range
 abbrev pub unused : Range
-unused = record { left = record { 0 = 0 }; right = record { 0 = 0 } }
+unused = range 0 0
 
 -- a list of at most eight ranges as it is held
 unfoldable pub heldOf : List Range → Held
@@ -55,9 +55,9 @@ joined nxt p ranges = record { from = least nxt (p .from) (met nxt p ranges); to
 
 -- a part as a range of sequence numbers
 unfoldable pub rangeOf : ℕ → Part → Range
-rangeOf nxt p = record { left = record { 0 = movedBy nxt (p .from) }; right = record { 0 = movedBy nxt (p .to) } }
+rangeOf nxt p = range (movedBy nxt (p .from)) (movedBy nxt (p .to))
 
--- the part is not empty and does not start at 0
+-- an out-of-order part: it is not empty and does not start at 0
 unfoldable pub isOutOfOrder : Part → Bool
 isOutOfOrder p = ltb 0 (p .from) && ltb (p .from) (p .to)
 

@@ -4,16 +4,13 @@ use mathlib.Core.Bool.{Bool, true, false}
 use mathlib.Core.List.{List, [], _∷_, foldl, map}
 use mathlib.Core.Path.{_≡_, refl}
 use Prim.Native.Nat.{ℕ}
-use Rattle.serial.specs.Serial.{offsetOf}
+use Rattle.serial.specs.Serial.{offsetOf, range}
 use Rattle.serial.specs.declared.Range.{Range}
 use Rattle.receive.specs.declared.Part.{Part}
 use Rattle.receive.specs.declared.Receive.{Receive}
 use Rattle.receive.specs.Ranges.{heldOf, isOutOfOrder, joined, leftOf, meets, noRoom, rangeOf, rangesAfter, rangesOf, rightOf}
 use Rattle.receive.specs.Taking.{acknowledged, advanced, holding, taken}
 use Rattle.receive.specs.Window.{Answer, acceptable, finInside, isWindowRefused, lacksRoom, newPart, opened, windowOpened}
-
-range : ℕ → ℕ → Range
-range left right = record { left = record { 0 = left }; right = record { 0 = right } }
 
 part : ℕ → ℕ → Part
 part from to = record { from = from; to = to }
@@ -203,5 +200,5 @@ answers =
 
 pub vectors : (map (λ v. v .0) receives ≡ map (λ v. v .1) receives) × (map (λ v. v .0) tests ≡ map (λ v. v .1) tests)
     × (map (λ v. v .0) parts ≡ map (λ v. v .1) parts) × (map (λ v. v .0) answers ≡ map (λ v. v .1) answers)
-unfolding receives tests parts answers range part receive after after500 plain zeroWindow across holds four seven eight answer opens refuses offsetOf heldOf isOutOfOrder joined leftOf meets noRoom rangeOf rangesAfter rangesOf rightOf advanced holding taken acceptable finInside isWindowRefused lacksRoom newPart opened windowOpened
+unfolding receives tests parts answers part receive after after500 plain zeroWindow across holds four seven eight answer opens refuses offsetOf heldOf isOutOfOrder joined leftOf meets noRoom rangeOf rangesAfter rangesOf rightOf advanced holding taken acceptable finInside isWindowRefused lacksRoom newPart opened windowOpened
 vectors = (refl, refl, refl, refl)

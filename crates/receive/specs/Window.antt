@@ -36,8 +36,8 @@ acceptable r seq len =
     (cond (eqb (r .window) 0) (eqb seq (r .nxt .0)) (ltb (firstOffset r seq) (r .window)))
     (cond (eqb (r .window) 0) false (ltb (firstOffset r seq) (r .window) || ltb (lastOffset r seq len) (r .window)))
 
--- document 01's "new part", as offsets from RCV.NXT: from o(SEQ) if below the window, else 0; to the end of the segment or the window, whichever
--- comes first. LEN 0 has an empty part at offset 0.
+-- document 01's "new part", as offsets from RCV.NXT: from o(SEQ) if below the window, else 0; to the end of the segment or the window,
+-- whichever comes first. LEN 0 has an empty part at offset 0.
 unfoldable pub newPart : Receive → ℕ → ℕ → Part
 newPart r seq len =
     cond (eqb len 0) (record { from = 0; to = 0 })

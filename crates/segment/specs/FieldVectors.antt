@@ -6,6 +6,7 @@ use mathlib.Core.List.{List, [], _∷_, _++_, map}
 use mathlib.Core.Path.{_≡_, refl}
 use lib.ListN.{length, replicate}
 use Rattle.octets.specs.Octets.{numberAt}
+use Rattle.serial.specs.Serial.{range}
 use Rattle.serial.specs.declared.Range.{Range}
 use Rattle.segment.specs.Grammar.{isBroken, padding, paddingRule}
 use Rattle.segment.specs.Options.{blocksFrom, faultAt, faultIn, isRepeated, isWrongLength, lengthsOf, oneToFour, optionIn, optionsOf, standsIn}
@@ -90,7 +91,7 @@ sack n = 1 ∷ 1 ∷ 5 ∷ (8 * n + 2) ∷ edges (2 * n) 1
 
 -- the block of two such edges, by their highest octets
 block : ℕ → ℕ → Range
-block a b = record { left = record { 0 = 16777216 * a + 66051 }; right = record { 0 = 16777216 * b + 66051 } }
+block a b = range (16777216 * a + 66051) (16777216 * b + 66051)
 
 two : List ℕ
 two = 7 ∷ 7 ∷ []

@@ -5,6 +5,7 @@ use mathlib.Core.List.{List, [], _∷_, _++_, map}
 use lib.Dec.{eqb}
 use lib.ListN.{getD, length}
 use Rattle.octets.specs.Octets.{numberAt}
+use Rattle.serial.specs.Serial.{range}
 use Rattle.serial.specs.declared.Range.{Range}
 use Rattle.segment.specs.Grammar.{Step, nop, end, whole, broken}
 use Rattle.segment.specs.declared.Mss.{Mss}
@@ -88,7 +89,7 @@ timestampsIn octets = Timestamps.Pair (record { 0 = numberAt 4 octets 2 }) (reco
 
 -- a block of a SACK option: left edge, then right edge
 abbrev pub blockAt : List ℕ → ℕ → Range
-blockAt octets at = record { left = record { 0 = numberAt 4 octets at }; right = record { 0 = numberAt 4 octets (at + 4) } }
+blockAt octets at = range (numberAt 4 octets at) (numberAt 4 octets (at + 4))
 
 -- n blocks from a place on
 unfoldable pub blocksFrom : ℕ → List ℕ → ℕ → List Range

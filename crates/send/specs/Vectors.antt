@@ -5,7 +5,7 @@ use mathlib.Core.Bool.{Bool, true, false}
 use mathlib.Core.List.{List, [], _∷_, map}
 use mathlib.Core.Path.{_≡_, refl}
 use lib.Dec.{ltb}
-use Rattle.serial.specs.Serial.{distanceOf, offsetOf}
+use Rattle.serial.specs.Serial.{distanceOf, offsetOf, range}
 use Rattle.serial.specs.declared.Range.{Range}
 use Rattle.send.specs.Send.{Answer, acknowledged, exceedsWindow, isCurrent, isLater, isListed, isNew, isUnsent, opened, sent, taken, updatesWindow, windowed}
 use Rattle.send.specs.declared.Send.{Send}
@@ -28,9 +28,6 @@ seg seq ack window = record { seq = record { 0 = seq }; ack = record { 0 = ack }
 
 answer : ℕ → Send → Answer
 answer number send = record { number = number; send = send }
-
-block : ℕ → ℕ → Range
-block left right = record { left = record { 0 = left }; right = record { 0 = right } }
 
 -- ISS 1000 with shift 7, then the greatest ISS; each with the ACK flag and without. No window is scaled.
 pub openings : List (Send × Send)
@@ -148,29 +145,29 @@ sents =
 pub blocks : List (Send × Range × Bool)
 blocks =
     -- left edge before UNA, at UNA, one after
-    (side 100 200 9 3 50 60, block 99 150, false)
-    ∷ (side 100 200 9 3 50 60, block 100 150, false)
-    ∷ (side 100 200 9 3 50 60, block 101 150, true)
+    (side 100 200 9 3 50 60, range 99 150, false)
+    ∷ (side 100 200 9 3 50 60, range 100 150, false)
+    ∷ (side 100 200 9 3 50 60, range 101 150, true)
     -- right edge one after the left, equal, before, at UNA, before UNA
-    ∷ (side 100 200 9 3 50 60, block 120 121, true)
-    ∷ (side 100 200 9 3 50 60, block 120 120, false)
-    ∷ (side 100 200 9 3 50 60, block 120 119, false)
-    ∷ (side 100 200 9 3 50 60, block 120 100, false)
-    ∷ (side 100 200 9 3 50 60, block 120 99, false)
+    ∷ (side 100 200 9 3 50 60, range 120 121, true)
+    ∷ (side 100 200 9 3 50 60, range 120 120, false)
+    ∷ (side 100 200 9 3 50 60, range 120 119, false)
+    ∷ (side 100 200 9 3 50 60, range 120 100, false)
+    ∷ (side 100 200 9 3 50 60, range 120 99, false)
     -- right edge at NXT, one after; all that is outstanding above UNA
-    ∷ (side 100 200 9 3 50 60, block 150 200, true)
-    ∷ (side 100 200 9 3 50 60, block 150 201, false)
-    ∷ (side 100 200 9 3 50 60, block 101 200, true)
+    ∷ (side 100 200 9 3 50 60, range 150 200, true)
+    ∷ (side 100 200 9 3 50 60, range 150 201, false)
+    ∷ (side 100 200 9 3 50 60, range 101 200, true)
     -- nothing outstanding
-    ∷ (side 700 700 9 3 50 60, block 701 702, false)
+    ∷ (side 700 700 9 3 50 60, range 701 702, false)
     -- past 2^32
-    ∷ (side 4294967290 10 9 3 50 60, block 4294967290 5, false)
-    ∷ (side 4294967290 10 9 3 50 60, block 4294967291 10, true)
-    ∷ (side 4294967290 10 9 3 50 60, block 4294967295 0, true)
-    ∷ (side 4294967290 10 9 3 50 60, block 0 11, false)
-    ∷ (side 4294967290 10 9 3 50 60, block 5 4294967295, false)
+    ∷ (side 4294967290 10 9 3 50 60, range 4294967290 5, false)
+    ∷ (side 4294967290 10 9 3 50 60, range 4294967291 10, true)
+    ∷ (side 4294967290 10 9 3 50 60, range 4294967295 0, true)
+    ∷ (side 4294967290 10 9 3 50 60, range 0 11, false)
+    ∷ (side 4294967290 10 9 3 50 60, range 5 4294967295, false)
     -- more outstanding than half of all numbers
-    ∷ (side 0 4294967295 9 3 50 60, block 1 4294967295, true)
+    ∷ (side 0 4294967295 9 3 50 60, range 1 4294967295, true)
     ∷ []
 
 pub vectors : (map (λ c. c .0) openings ≡ map (λ c. c .1) openings)
@@ -180,5 +177,5 @@ pub vectors : (map (λ c. c .0) openings ≡ map (λ c. c .1) openings)
     × (map (λ c. sent (c .0) (c .1)) sents ≡ map (λ c. c .2) sents)
     × (map (λ c. isListed (c .0) (c .1)) blocks ≡ map (λ c. c .2) blocks)
     × (ltb (greatest .window) (2 ^ 30) ≡ true)
-unfolding openings greatest unsents news takes sents blocks side seg answer block opened isNew acknowledged isCurrent isLater updatesWindow windowed taken exceedsWindow sent isListed offsetOf distanceOf
+unfolding openings greatest unsents news takes sents blocks side seg answer opened isNew acknowledged isCurrent isLater updatesWindow windowed taken exceedsWindow sent isListed offsetOf distanceOf
 vectors = (refl, refl, refl, refl, refl, refl, refl)

@@ -1,6 +1,6 @@
 -- The offset o(x) is the one number below 2^32 that leads from the base to x. Assumes nothing.
 use mathlib.Core.Path.{_≡_, sym}
-use Prim.Native.Nat.{ℕ, _+_, _-_, _%_, _^_, _<_, _≤_}
+use Prim.Native.Nat.{ℕ, _-_, _%_, _^_, _<_, _≤_}
 use native.Mathlib.Omega.{arith}
 use Rattle.serial.specs.Serial.{movedBy, offsetOf}
 

@@ -5,6 +5,7 @@ use mathlib.Core.Bool.{Bool}
 use Prim.Native.Nat.{ℕ, suc, _+_, _-_, _%_, _^_, _≤_}
 use lib.IntN.{ℤ, pos, negsuc, subℕ}
 use lib.Signed.{leZ, ltZ}
+use Rattle.serial.specs.declared.Range.{Range}
 
 -- from -2^31 to 2^31 - 1
 abbrev pub InRange : ℤ → Type 0
@@ -48,3 +49,7 @@ stampAt clock offset = (clock + offset) % 2 ^ 32
 -- the sample R: (our timestamp - TSecr) mod 2^32
 abbrev pub roundTrip : ℕ → ℕ → ℕ
 roundTrip ours echoed = offsetOf echoed ours
+
+-- the sequence numbers from left up to right, which is not among them
+abbrev pub range : ℕ → ℕ → Range
+range left right = record { left = record { 0 = left }; right = record { 0 = right } }
