@@ -4,8 +4,8 @@ use mathlib.Core.List.{List, [], _∷_, _++_}
 use Prim.Native.Nat.{ℕ, suc, _+_, _≤_}
 use native.Mathlib.Nat.{add-zero}
 use native.Mathlib.Omega.{arith}
-use lib.ListN.{length, set}
-use lib.Seq.{set-out, sets}
+use lib.ListN.{drop, length, set}
+use lib.Seq.{set-out, sets, sets-eq}
 
 -- past the end nothing is stored
 pub sets-out : (l : List ℕ) (i : ℕ) (vs : List ℕ) → length l ≤ i → sets l i vs ≡ l
@@ -22,3 +22,9 @@ sets-append l i (x ∷ xs) ys =
 pub sets-then : (l : List ℕ) {k m : List ℕ} (i : ℕ) (xs ys : List ℕ) → m ≡ sets l i xs → k ≡ sets m (i + length xs) ys → k ≡ sets l i (xs ++ ys)
 sets-then l i xs ys first second =
     second ∙ ap (λ (n : List ℕ). sets n (i + length xs) ys) first ∙ sets-append l i xs ys
+
+-- at the start, with room for them: what follows them stays
+pub sets-front : (l xs : List ℕ) → length xs ≤ length l → sets l 0 xs ≡ xs ++ drop (length xs) l
+sets-front l xs room =
+    let place : 0 + length xs ≡ length xs = omega arith in
+    sets-eq xs l 0 (omega arith) ∙ ap (λ (n : ℕ). xs ++ drop n l) place

@@ -37,7 +37,7 @@ module _ (before : List Step) (at : ℕ) (octets : List ℕ) where
   after = before ++ (whole at octets ∷ [])
 
   -- the option of a kind is the one more, where it has that kind and none before has it
-  option-after : (k : ℕ) → (eqb kind k ≡ true → isFound (optionOf k before) ≡ false)
+  pub option-after : (k : ℕ) → (eqb kind k ≡ true → isFound (optionOf k before) ≡ false)
       → optionOf k after ≡ cond (eqb kind k) (found at octets) (optionOf k before)
   unfolding optionIn standsIn
   option-after k new = optionIn-append (k ∷ []) before (whole at octets ∷ []) ∙ go (eqb kind k) (optionOf k before) new
@@ -50,7 +50,7 @@ module _ (before : List Step) (at : ℕ) (octets : List ℕ) where
       go false (found a o) n = refl
 
   -- a known kind that does not repeat is new
-  new-kind : isRepeated before kind ≡ false → (k : ℕ) → isKnown k ≡ true → eqb kind k ≡ true → isFound (optionOf k before) ≡ false
+  pub new-kind : isRepeated before kind ≡ false → (k : ℕ) → isKnown k ≡ true → eqb kind k ≡ true → isFound (optionOf k before) ≡ false
   unfolding isRepeated
   new-kind e k known same = rw (eqb-true kind k same, known) at e
 

@@ -17,7 +17,7 @@ use Rattle.segment.specs.declared.rules.Listing.{Listing}
 use Rattle.segment.proofs.Gathering.{firstOf, optionIn-append}
 
 -- Steps before matter only by the options among them.
-abbrev SameOptions : List Step → List Step → Type 0
+abbrev pub SameOptions : List Step → List Step → Type 0
 SameOptions a b = (kinds : List ℕ) → optionIn kinds a ≡ optionIn kinds b
 
 same-noted : (a b : List Step) (places : Places) → SameOptions a b → Noted a places → Noted b places
@@ -79,7 +79,7 @@ module _ (before : List Step) (step : Step) (later : List Step) where
   outcome-fault why some e = rw e (simp (ne-eqb (numberOf why) 0 some))
 
 -- a step that is no option leaves the options among those before
-no-option : (before : List Step) (step : Step) → ((kinds : List ℕ) → optionIn kinds (step ∷ []) ≡ nothing) → SameOptions before (before ++ (step ∷ []))
+pub no-option : (before : List Step) (step : Step) → ((kinds : List ℕ) → optionIn kinds (step ∷ []) ≡ nothing) → SameOptions before (before ++ (step ∷ []))
 no-option before step e kinds =
     sym (optionIn-append kinds before (step ∷ []) ∙ ap (firstOf (optionIn kinds before)) (e kinds) ∙ alone (optionIn kinds before))
   where

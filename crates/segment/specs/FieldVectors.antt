@@ -1,25 +1,21 @@
 -- What is answered to each of some segments, beside what it should be in the code's own cases, under one statement: each field, each flag,
 -- each option by itself and all together, and each refusal.
-use Prim.Native.Nat.{ℕ, zero, suc, _+_, _*_, _/_}
-use mathlib.Core.Bool.{Bool, true, false}
+use Prim.Native.Nat.{ℕ, _+_, _*_, _/_}
+use mathlib.Core.Bool.{true, false}
 use mathlib.Core.List.{List, [], _∷_, _++_, map}
 use mathlib.Core.Path.{_≡_, refl}
 use lib.ListN.{length, replicate}
 use Rattle.octets.specs.Octets.{numberAt}
-use Rattle.serial.specs.Serial.{range}
-use Rattle.serial.specs.declared.Range.{Range}
+use Rattle.segment.specs.Cases.{ack, all, block, flags, none, sack, withAll, withBlocks, withMss, withPermitted, withScale, withStamps}
 use Rattle.segment.specs.Grammar.{isBroken, padding, paddingRule}
 use Rattle.segment.specs.Options.{blocksFrom, faultAt, faultIn, isRepeated, isWrongLength, lengthsOf, oneToFour, optionIn, optionsOf, standsIn}
 use Rattle.segment.specs.Reading.{Answer, optionsRead, reading, segmentOf, shown}
 use Rattle.segment.specs.declared.Flags.{Flags}
-use Rattle.segment.specs.declared.Mss.{Mss}
 use Rattle.segment.specs.declared.Options.{Options}
 use Rattle.segment.specs.declared.Reading.{Reading}
 use Rattle.segment.specs.declared.Refusal.{Refusal}
 use Rattle.segment.specs.declared.SackBlocks.{SackBlocks}
 use Rattle.segment.specs.declared.Segment.{Segment}
-use Rattle.segment.specs.declared.Timestamps.{Timestamps}
-use Rattle.segment.specs.declared.WindowScale.{WindowScale}
 
 -- a segment with this octet 13, these options, a multiple of 4 octets, and payload; the low half of octet 12 is 15
 segment : ℕ → List ℕ → List ℕ → List ℕ
@@ -41,57 +37,6 @@ answered flags options start length len = shown (Reading.Segment (record {
   payload = record { start = start; length = length };
   len = len;
 }))
-
-flags : Bool → Bool → Bool → Bool → Bool → Bool → Bool → Bool → Flags
-flags cwr ece urg ack psh rst syn fin = record { cwr = cwr; ece = ece; urg = urg; ack = ack; psh = psh; rst = rst; syn = syn; fin = fin }
-
-ack : Flags
-ack = flags false false false true false false false false
-
-says : Mss → WindowScale → Bool → SackBlocks → Timestamps → Options
-says mss scale permitted blocks timestamps = record { mss = mss; scale = scale; permitted = permitted; blocks = blocks; timestamps = timestamps }
-
-none : Options
-none = says Mss.Absent WindowScale.Absent false SackBlocks.Absent Timestamps.Absent
-
--- what one option says, or all but SACK: MSS 258, shift 15, SACK-permitted, TSval 185,339,150 with TSecr 353,769,240
-withMss : Options
-withMss = says (Mss.Octets 258) WindowScale.Absent false SackBlocks.Absent Timestamps.Absent
-
-withScale : Options
-withScale = says Mss.Absent (WindowScale.Shift 15) false SackBlocks.Absent Timestamps.Absent
-
-withPermitted : Options
-withPermitted = says Mss.Absent WindowScale.Absent true SackBlocks.Absent Timestamps.Absent
-
-stamps : Timestamps
-stamps = Timestamps.Pair (record { 0 = 185339150 }) (record { 0 = 353769240 })
-
-withStamps : Options
-withStamps = says Mss.Absent WindowScale.Absent false SackBlocks.Absent stamps
-
-withBlocks : SackBlocks → Options
-withBlocks blocks = says Mss.Absent WindowScale.Absent false blocks Timestamps.Absent
-
-withAll : Options
-withAll = says (Mss.Octets 258) (WindowScale.Shift 15) true SackBlocks.Absent stamps
-
--- the octets of all but SACK
-all : List ℕ
-all = 2 ∷ 4 ∷ 1 ∷ 2 ∷ 4 ∷ 2 ∷ 8 ∷ 10 ∷ 11 ∷ 12 ∷ 13 ∷ 14 ∷ 21 ∷ 22 ∷ 23 ∷ 24 ∷ 1 ∷ 3 ∷ 3 ∷ 15 ∷ []
-
--- n edges of SACK blocks, whose highest octets count from k on
-edges : ℕ → ℕ → List ℕ
-edges zero k = []
-edges (suc n) k = k ∷ 1 ∷ 2 ∷ 3 ∷ edges n (k + 1)
-
--- a SACK option of n blocks, after two NOPs
-sack : ℕ → List ℕ
-sack n = 1 ∷ 1 ∷ 5 ∷ (8 * n + 2) ∷ edges (2 * n) 1
-
--- the block of two such edges, by their highest octets
-block : ℕ → ℕ → Range
-block a b = range (16777216 * a + 66051) (16777216 * b + 66051)
 
 two : List ℕ
 two = 7 ∷ 7 ∷ []
@@ -129,5 +74,5 @@ table =
     ∷ []
 
 pub vectors : map (λ v. v .0) table ≡ map (λ v. v .1) table
-unfolding table segment answered flags ack says none stamps withMss withScale withPermitted withStamps withBlocks all withAll edges sack block two numberAt isBroken padding paddingRule blocksFrom faultAt faultIn isRepeated isWrongLength lengthsOf oneToFour optionIn optionsOf standsIn optionsRead reading segmentOf
+unfolding table segment answered two numberAt isBroken padding paddingRule blocksFrom faultAt faultIn isRepeated isWrongLength lengthsOf oneToFour optionIn optionsOf standsIn optionsRead reading segmentOf
 vectors = refl

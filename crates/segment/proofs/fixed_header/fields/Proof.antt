@@ -1,8 +1,8 @@
 -- Each field is read at its place. Assumes nothing.
 use borrow.Author.Needs.{needs}
 use Rattle.segment.specs.Reading.{segmentOf}
-use Rattle.segment.proofs.header.fields.Statement.{statement}
-use Rattle.segment.proofs.header.fields.Tie as tie
+use Rattle.segment.proofs.fixed_header.fields.Statement.{statement}
+use Rattle.segment.proofs.fixed_header.fields.Tie as tie
 
 read-u16-requires : tie.Need-read-u16-requires
 read-u16-requires c κs = search needs

@@ -1,8 +1,8 @@
 -- At most 2 is added, so that the sum fits. Assumes nothing.
 use native.Mathlib.Omega.{arith}
 use borrow.Author.Needs.{needs}
-use Rattle.segment.proofs.header.len.Statement.{statement}
-use Rattle.segment.proofs.header.len.Tie as tie
+use Rattle.segment.proofs.fixed_header.len.Statement.{statement}
+use Rattle.segment.proofs.fixed_header.len.Tie as tie
 
 one-if-requires : tie.Need-one-if-requires
 one-if-requires c κs = search needs
