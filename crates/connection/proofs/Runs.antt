@@ -145,7 +145,7 @@ demand-3-in-record-worked =
       before = [];
       rtt = 57;
       after = [];
-      split = ap (λ l. getD l 0 [] ++ []) (witnesses .8);
+      split = ap (λ l. getD l 0 [] ++ []) (witnesses .7);
       not-refused = omega arith;
       last = tt;
     })

@@ -1,6 +1,5 @@
 -- Worked cases, computed from the definitions, under one statement: the number and answer of each case of the enums; every refusal and
--- every verdict, 0 and 21 to 30, both sides of each condition and their order; whole records at openings, takes and the other calls. M10 of
--- document 01 is among the last.
+-- every verdict, 0 and 21 to 30, both sides of each condition and their order; whole records at openings, takes and the other calls.
 use Prim.Native.Nat.{ℕ, _+_}
 use mathlib.Core.Bool.{true, false}
 use mathlib.Core.List.{List, [], _∷_, _++_, map}
@@ -8,7 +7,6 @@ use mathlib.Core.Option.{Option·elim}
 use mathlib.Core.Path.{_≡_, refl, ap}
 use lib.ListN.{getD, replicate}
 use Rattle.serial.specs.Serial.{distanceOf, offsetOf, range}
-use Rattle.serial.specs.declared.Range.{Range}
 use Rattle.octets.specs.Octets.{bigEndian, numberAt}
 use Rattle.offers.specs.Offers.{exceedLimits, inForce, shiftsInForce}
 use Rattle.offers.specs.declared.Scale.{Scale}
@@ -35,7 +33,7 @@ use Rattle.connection.specs.Verdict.{hasOldTimestamp, lacksTimestamp, ou
 use Rattle.connection.specs.Taking.{fedBy, isRecorded, listed, recordAfter, replacesRecent, sampleOf, timestampingAfter}
 use Rattle.connection.specs.Arriving.{Arrival, arriving, arrivingRead, judged, settled, takenBy}
 use Rattle.connection.specs.Operations.{acknowledged, expired, sent, windowOpened}
-use Rattle.connection.specs.Calls.{Call, Opened, acknowledgment, arrival, called, expiry, run, sending, timerCall, timerCalls, window}
+use Rattle.connection.specs.Calls.{Call, Opened, acknowledgment, arrival, expiry, run, sending, timerCall, timerCalls, window}
 use Rattle.connection.specs.Cases.{ack, answer, answered, bare, base, behind, connected, decision, fin, fourBlocks, full, left, newly, octets, outstanding, own, plain, receiveSide, recorded, rst, sacks, sampled, sendSide, setup, seven, stamps, syn, synOptions, unacknowledged, unscaled, unscaledReceive, unscaledSend, zeroWindow}
 
 -- the enums
@@ -188,7 +186,7 @@ verdicts =
     ∷ (at base 100 (octets 5000 2147484648 ack 9 (stamps 50 0) 0), decision 29 dropWithAck)
     ∷ (at base 100 (octets 5000 2147484649 ack 9 (stamps 50 0) 0), decision 0 take)
     ∷ (at base 100 (octets 5000 1001 ack 9 (stamps 50 0) 0), decision 0 take)
-    -- 30, connected (receiveSide 29: eight held ) (sending     ) (recorded  ) , and a ninth apart from them; one that touches is taken, and one at RCV.NXT
+    -- 30, after 29: eight are held, and a ninth is apart from them; one that touches is taken, and one at RCV.NXT
     ∷ (at full 100 (octets 6800 1002 ack 9 (stamps 50 0) 10), decision 29 dropWithAck)
     ∷ (at full 100 (octets 6800 1001 ack 9 (stamps 50 0) 10), decision 30 dropWithAck)
     ∷ (at full 100 (octets 6711 1001 ack 9 (stamps 50 0) 10), decision 30 dropWithAck)
@@ -215,10 +213,10 @@ answers =
       arriving base 150 (octets 5000 1001 ack 9 (stamps 60 4294367452) 0),
       answer (decision 0 take) 0 0 false [] (connected (receiveSide 5000 65535 5000 []) (sendSide 1001 1001 72 5000 1001) (recorded 60 150) newly),
     )
-    -- M12: a second sample; one of a segment after Last.ACK.sent, with TSecr 0
+    -- a second sample, 2003 after 2000; one of a segment after Last.ACK.sent, with TSecr 0
     ∷ (
-      arriving (unacknowledged 1001 1001 (sampled 256000 128000 3001)) 100 (octets 5000 2500 ack 9 (stamps 50 4294966402) 0),
-      answer (decision 0 take) 0 0 false [] (unacknowledged 2500 2500 (sampled 256032 96064 2502)),
+      arriving (unacknowledged 1001 1001 (sampled 512000 256000 6001)) 100 (octets 5000 2500 ack 9 (stamps 50 4294965400) 0),
+      answer (decision 0 take) 0 0 false [] (unacknowledged 2500 2500 (sampled 512096 192192 5004)),
     )
     ∷ (
       arriving (unacknowledged 1001 1001 newly) 100 (octets 5001 2500 ack 9 (stamps 50 0) 0),
@@ -322,6 +320,11 @@ answers =
       answer (decision 0 take) 790 800 false []
           (connected (receiveSide 6010 64525 5000 (range 6800 6810 ∷ seven)) (sendSide 1001 1001 72 6800 1001) (recorded 50 100) newly),
     )
+    -- a third range is put first, also where SACK is not in force
+    ∷ (
+      arriving (bare 5000 65535 (range 5600 5700 ∷ range 6000 6100 ∷ []) 8192 4999) 150 (octets 7000 1000 ack 9 [] 600),
+      answer (decision 0 take) 2000 2600 false [] (bare 5000 65535 (range 7000 7600 ∷ range 5600 5700 ∷ range 6000 6100 ∷ []) 9 7000),
+    )
     -- a refusal of reading, E8, and every verdict but 0
     ∷ (arriving base 150 (octets 5000 1001 ack 9 (8 ∷ 9 ∷ 0 ∷ 0 ∷ []) 500), left base 4 refuse)
     ∷ (arriving base 99 (octets 5000 1001 fin 9 (stamps 60 100) 500), left base 8 refuse)
@@ -363,8 +366,8 @@ operations =
           (record { srtt = 0; rttvar = 0; sampled = false; timeout = 2000 })),
     )
     ∷ (
-      answered 0 (expired (unacknowledged 1001 1001 (sampled 256000 128000 3001))),
-      answered 0 (unacknowledged 1001 1001 (sampled 256000 128000 6002)),
+      answered 0 (expired (unacknowledged 1001 1001 (sampled 512000 256000 6001))),
+      answered 0 (unacknowledged 1001 1001 (sampled 512000 256000 12002)),
     )
     -- with SACK alone in force, and with nothing
     ∷ (
@@ -376,25 +379,6 @@ operations =
     ∷ (
       answered 0 (acknowledged behind),
       answered 0 (connected (receiveSide 5000 65535 5000 []) (sendSide 1001 1001 72 5000 1001) (recorded 50 100) newly),
-    )
-    ∷ []
-
--- M10: segments of 500 octets at 5000, 6000, 7000 and 8000, one after the other
-at-number : ℕ → Call
-at-number seq = arrival 100 (octets seq 1000 ack 9 [] 500)
-
--- the record with these ranges, after the segment at WL1
-with-ranges : List Range → ℕ → Connection
-with-ranges ranges wl1 = bare 5500 65035 ranges 9 wl1
-
-pub marked : List (Connection × Connection)
-marked =
-    (called plain (at-number 5000), with-ranges [] 5000)
-    ∷ (called (with-ranges [] 5000) (at-number 6000), with-ranges (range 6000 6500 ∷ []) 6000)
-    ∷ (called (with-ranges (range 6000 6500 ∷ []) 6000) (at-number 7000), with-ranges (range 7000 7500 ∷ range 6000 6500 ∷ []) 7000)
-    ∷ (
-      called (with-ranges (range 7000 7500 ∷ range 6000 6500 ∷ []) 7000) (at-number 8000),
-      with-ranges (range 8000 8500 ∷ range 7000 7500 ∷ range 6000 6500 ∷ []) 8000,
     )
     ∷ []
 
@@ -436,10 +420,9 @@ pub witnesses : (map (λ c. outcomeOf (c .0)) outcomes ≡ map (λ c. c .1) outc
     × (map (λ c. c .0) verdicts ≡ map (λ c. c .1) verdicts)
     × (map (λ c. c .0) answers ≡ map (λ c. c .1) answers)
     × (map (λ c. c .0) operations ≡ map (λ c. c .1) operations)
-    × (map (λ c. c .0) marked ≡ map (λ c. c .1) marked)
     × (map (λ c. c .0) runs ≡ map (λ c. c .1) runs)
     × (map (λ c. c .0) fedCalls ≡ map (λ c. c .1) fedCalls)
-unfolding outcomes openOutcomes openings verdicts answers operations marked runs fedCalls at at-number with-ranges
+unfolding outcomes openOutcomes openings verdicts answers operations runs fedCalls at
     offsetOf distanceOf bigEndian numberAt exceedLimits inForce shiftsInForce heldOf isOutOfOrder joined leftOf meets noRoom rangeOf rangesAfter
     rangesOf rightOf taking.advanced taking.holding taking.taken receive.acceptable receive.finInside receive.isWindowRefused
     receive.lacksRoom receive.newPart receive.opened receive.windowOpened isBroken padding paddingRule blocksFrom faultAt faultIn isRepeated
@@ -448,7 +431,7 @@ unfolding outcomes openOutcomes openings verdicts answers operations marked runs
     isWrongAck opening openingFrom recordFrom recordWith timestampingFrom hasOldTimestamp lacksTimestamp outdated rows valueBefore fedBy
     isRecorded listed recordAfter replacesRecent sampleOf timestampingAfter arriving arrivingRead judged settled takenBy acknowledged
     expired sent windowOpened Option·elim
-witnesses = (refl, refl, refl, refl, refl, refl, refl, refl, refl)
+witnesses = (refl, refl, refl, refl, refl, refl, refl, refl)
 
 -- so there is an opening that is not refused
 pub base-opened : Opened base

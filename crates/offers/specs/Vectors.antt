@@ -1,4 +1,4 @@
--- What is in force for some offers, and both sides of E9's limits, under one statement: M5 of document 01 among them.
+-- What is in force for some offers, and both sides of E9's limits, under one statement.
 use Prim.Native.Nat.{ℕ}
 use mathlib.Core.Bool.{Bool, true, false}
 use mathlib.Core.List.{List, [], _∷_, map}
@@ -17,11 +17,10 @@ forced receive send timestamps sack = record { shifts = record { receive = recei
 -- own offers, the peer's, and what is in force
 pub cases : List (Offers × Offers × InForce)
 cases =
-    -- M5
-    (offers (Scale.Shift 7) false false, offers (Scale.Shift 15) false false, forced 7 14 false false)
-    -- on both sides of 14, and the greatest octet
-    ∷ (offers (Scale.Shift 14) false false, offers (Scale.Shift 13) false false, forced 14 13 false false)
+    -- the peer's shift on both sides of 14, and the greatest octet
+    (offers (Scale.Shift 14) false false, offers (Scale.Shift 13) false false, forced 14 13 false false)
     ∷ (offers (Scale.Shift 0) false false, offers (Scale.Shift 14) false false, forced 0 14 false false)
+    ∷ (offers (Scale.Shift 3) true true, offers (Scale.Shift 15) true true, forced 3 14 true true)
     ∷ (offers (Scale.Shift 2) false false, offers (Scale.Shift 255) false false, forced 2 14 false false)
     -- scaling offered by one side alone, or by none
     ∷ (offers (Scale.Shift 7) false false, offers Scale.Absent false false, forced 0 0 false false)

@@ -1,5 +1,5 @@
--- Worked cases of the definitions, each beside what it should give, under one statement: M10 of document 01 and what follows from it,
--- then both sides of each limit, and numbers that come round.
+-- Worked cases of the definitions, each beside what it should give, under one statement: segments one after another, both sides of each
+-- limit, and numbers that come round.
 use mathlib.Core.Bool.{Bool, true, false}
 use mathlib.Core.List.{List, [], _∷_, foldl, map}
 use mathlib.Core.Path.{_≡_, refl}
@@ -29,9 +29,9 @@ receive nxt window shift acked ranges = record {
 after : Receive → ℕ → ℕ → Receive
 after r seq len = taken r (newPart r seq len)
 
--- segments of 500 octets, one after another
-after500 : Receive → List ℕ → Receive
-after500 = foldl (λ r seq. after r seq 500)
+-- segments of 100 octets, one after another
+after100 : Receive → List ℕ → Receive
+after100 = foldl (λ r seq. after r seq 100)
 
 -- with no range held: an ordinary window, none, and one across the number 0, from 4294967290 up to 14
 plain : Receive
@@ -59,19 +59,21 @@ eight = range 1400 1410 ∷ seven
 pub receives : List (Receive × Receive)
 receives =
     (opened 5000 400 3, receive 5000 400 3 5000 [])
+    ∷ (opened 4294967295 65535 14, receive 4294967295 65535 14 4294967295 [])
     ∷ (acknowledged (receive 6000 400 3 5000 (range 6100 6200 ∷ [])), receive 6000 400 3 6000 (range 6100 6200 ∷ []))
-    -- M10; then the segment at 6500 joins two ranges, and the one at 5500 goes on through the joined one
+    -- one in order, across the number 0, and three above it; then the segment at 100 joins two ranges, and the last one goes on through
+    -- the joined one
     ∷ (
-      after500 (opened 5000 65535 3) (5000 ∷ 6000 ∷ 7000 ∷ 8000 ∷ []),
-      receive 5500 65035 3 5000 (range 8000 8500 ∷ range 7000 7500 ∷ range 6000 6500 ∷ []),
+      after100 (opened 4294967096 1000 3) (4294967096 ∷ 0 ∷ 200 ∷ 400 ∷ []),
+      receive 4294967196 900 3 4294967096 (range 400 500 ∷ range 200 300 ∷ range 0 100 ∷ []),
     )
     ∷ (
-      after500 (opened 5000 65535 3) (5000 ∷ 6000 ∷ 7000 ∷ 8000 ∷ 6500 ∷ []),
-      receive 5500 65035 3 5000 (range 6000 7500 ∷ range 8000 8500 ∷ []),
+      after100 (opened 4294967096 1000 3) (4294967096 ∷ 0 ∷ 200 ∷ 400 ∷ 100 ∷ []),
+      receive 4294967196 900 3 4294967096 (range 0 300 ∷ range 400 500 ∷ []),
     )
     ∷ (
-      after500 (opened 5000 65535 3) (5000 ∷ 6000 ∷ 7000 ∷ 8000 ∷ 6500 ∷ 5500 ∷ []),
-      receive 7500 63035 3 5000 (range 8000 8500 ∷ []),
+      after100 (opened 4294967096 1000 3) (4294967096 ∷ 0 ∷ 200 ∷ 400 ∷ 100 ∷ 4294967196 ∷ []),
+      receive 300 500 3 4294967096 (range 400 500 ∷ []),
     )
     -- the joined range first, and the rest in their order
     ∷ (after (holds four) 1310 190, holds (range 1300 1510 ∷ range 1800 1810 ∷ range 1100 1110 ∷ []))
@@ -200,5 +202,5 @@ answers =
 
 pub vectors : (map (λ v. v .0) receives ≡ map (λ v. v .1) receives) × (map (λ v. v .0) tests ≡ map (λ v. v .1) tests)
     × (map (λ v. v .0) parts ≡ map (λ v. v .1) parts) × (map (λ v. v .0) answers ≡ map (λ v. v .1) answers)
-unfolding receives tests parts answers part receive after after500 plain zeroWindow across holds four seven eight answer opens refuses offsetOf heldOf isOutOfOrder joined leftOf meets noRoom rangeOf rangesAfter rangesOf rightOf advanced holding taken acceptable finInside isWindowRefused lacksRoom newPart opened windowOpened
+unfolding receives tests parts answers part receive after after100 plain zeroWindow across holds four seven eight answer opens refuses offsetOf heldOf isOutOfOrder joined leftOf meets noRoom rangeOf rangesAfter rangesOf rightOf advanced holding taken acceptable finInside isWindowRefused lacksRoom newPart opened windowOpened
 vectors = (refl, refl, refl, refl)

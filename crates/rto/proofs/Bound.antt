@@ -11,7 +11,7 @@ use Rattle.rto.specs.Timer.{apart, first, later, limited, newTimer, samp
 use Rattle.rto.specs.Calls.{Call, sample, expiry, called, run}
 use Rattle.rto.specs.Fractions.{Fraction, Is, whole}
 use Rattle.rto.specs.Exact.{Exact, unset, set, exactCalled, exactRun, exactSampled}
-use Rattle.rto.specs.Demand.{Demand3, OnTime, RefusedSamples, SampleStands}
+use Rattle.rto.specs.Demand.{Demand3, OnTime, RefusedSamples}
 use Rattle.rto.proofs.Rounding.{mean-is}
 use Rattle.rto.proofs.Fractions.{at-most, below, whole-is}
 use Rattle.rto.proofs.Exact.{late-is, rttvar-is, srtt-is, value-is}

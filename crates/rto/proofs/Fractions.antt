@@ -1,5 +1,5 @@
 -- What the operations on fractions do to whole numbers over one denominator. Assumes nothing.
-use Prim.Native.Nat.{ℕ, _+_, _*_, _≤_, _<_}
+use Prim.Native.Nat.{ℕ, _*_, _≤_, _<_}
 use mathlib.Core.Path.{_≡_, sym, ap, _∙_}
 use native.Mathlib.Nat.{le-of-mul-le-mul-right, lt-of-mul-lt-mul-right, mul-comm, mul-le-mul-left, mul-lt-mul-of-pos-left, mul-pos}
 use native.Mathlib.Omega.{arith}

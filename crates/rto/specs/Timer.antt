@@ -1,5 +1,5 @@
 -- The retransmission timer (document 01, "The timer"). S and V are in 1/256 ms, a sample R and the timer's value in ms.
-use mathlib.Core.Bool.{Bool, true, false, cond, _&&_}
+use mathlib.Core.Bool.{true, false, cond, _&&_}
 use mathlib.Core.Option.{Option, none, some}
 use mathlib.Core.Path.{_≡_}
 use Prim.Native.Nat.{ℕ, _+_, _-_, _*_, _/_, _≤_, min, max}

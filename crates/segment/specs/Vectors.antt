@@ -1,5 +1,5 @@
--- The number that each of some segments is answered with, beside what it should be, under one statement: M6 and M7 of document 01, both
--- sides of the limit of each of E1 to E6, and their order; then every known kind and its lengths.
+-- The number that each of some segments is answered with, beside what it should be, under one statement: both sides of the limit of each
+-- of E1 to E6, and their order; then every known kind and its lengths.
 use Prim.Native.Nat.{ℕ, zero, suc, _+_, _-_, _*_, _/_}
 use mathlib.Core.Bool.{Bool, cond, not}
 use mathlib.Core.List.{List, [], _∷_, _++_, map}
@@ -34,10 +34,8 @@ sack = option 5 10
 
 pub numbers : List (ℕ × ℕ)
 numbers =
-    (number [], 0)  -- M6
-    ∷ (number (8 ∷ 9 ∷ 0 ∷ 0 ∷ []), 4)  -- M7
     -- E1
-    ∷ (reading [] .number, 1)
+    (reading [] .number, 1)
     ∷ (reading (replicate 19 80) .number, 1)
     ∷ (reading (replicate 20 80) .number, 0)
     -- E2
@@ -67,6 +65,7 @@ numbers =
     ∷ (number (254 ∷ 4 ∷ 0 ∷ 0 ∷ []), 0)
     ∷ (number (254 ∷ 5 ∷ 0 ∷ 0 ∷ []), 4)
     ∷ (reading (segment 96 (254 ∷ 5 ∷ 0 ∷ 0 ∷ 0 ∷ [])) .number, 4)
+    ∷ (number (3 ∷ 5 ∷ 0 ∷ 0 ∷ []), 4)
     ∷ (number (option 254 40), 0)
     -- E5: on both sides of a length; the table below has every length of every known kind
     ∷ (number (option 2 3), 5)

@@ -1,10 +1,9 @@
--- Worked cases of the send side, each beside the whole of what it should give, under one statement: M4 of document 01, both sides of every
--- limit, numbers that come round, and numbers that are 2^31 apart.
-use Prim.Native.Nat.{ℕ, _^_}
+-- Worked cases of the send side, each beside the whole of what it should give, under one statement: both sides of every limit, numbers
+-- that come round, and numbers that are 2^31 apart.
+use Prim.Native.Nat.{ℕ}
 use mathlib.Core.Bool.{Bool, true, false}
 use mathlib.Core.List.{List, [], _∷_, map}
 use mathlib.Core.Path.{_≡_, refl}
-use lib.Dec.{ltb}
 use Rattle.serial.specs.Serial.{distanceOf, offsetOf, range}
 use Rattle.serial.specs.declared.Range.{Range}
 use Rattle.send.specs.Send.{Answer, acknowledged, exceedsWindow, isCurrent, isLater, isListed, isNew, isUnsent, opened, sent, taken, updatesWindow, windowed}
@@ -75,15 +74,12 @@ news =
     ∷ (side 0 3000000000 9 3 50 60, 3000000001, false)
     ∷ []
 
--- M4
-pub greatest : Send
-greatest = taken (side 100 200 9 14 50 60) (seg 51 150 65535)
-
 -- a send side, a segment, and the send side after it is taken
 pub takes : List (Send × Seg × Send)
 takes =
-    -- M4
-    (side 100 200 9 14 50 60, seg 51 150 65535, side 150 200 1073725440 14 51 150)
+    -- large windows and shifts
+    (side 100 200 9 14 50 60, seg 51 150 65534, side 150 200 1073709056 14 51 150)
+    ∷ (side 100 200 9 13 50 60, seg 51 150 65535, side 150 200 536862720 13 51 150)
     -- ACK new, at UNA, at NXT; WL1 before SEQ
     ∷ (side 100 200 9 3 50 60, seg 51 150 7, side 150 200 56 3 51 150)
     ∷ (side 100 200 9 3 50 60, seg 51 100 7, side 100 200 56 3 51 100)
@@ -176,6 +172,5 @@ pub vectors : (map (λ c. c .0) openings ≡ map (λ c. c .1) openings)
     × (map (λ c. taken (c .0) (c .1)) takes ≡ map (λ c. c .2) takes)
     × (map (λ c. sent (c .0) (c .1)) sents ≡ map (λ c. c .2) sents)
     × (map (λ c. isListed (c .0) (c .1)) blocks ≡ map (λ c. c .2) blocks)
-    × (ltb (greatest .window) (2 ^ 30) ≡ true)
-unfolding openings greatest unsents news takes sents blocks side seg answer opened isNew acknowledged isCurrent isLater updatesWindow windowed taken exceedsWindow sent isListed offsetOf distanceOf
-vectors = (refl, refl, refl, refl, refl, refl, refl)
+unfolding openings unsents news takes sents blocks side seg answer opened isNew acknowledged isCurrent isLater updatesWindow windowed taken exceedsWindow sent isListed offsetOf distanceOf
+vectors = (refl, refl, refl, refl, refl, refl)

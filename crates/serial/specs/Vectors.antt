@@ -1,5 +1,5 @@
--- Worked cases of the definitions, each beside what it should give, under one statement: M1 to M3 of document 01, then numbers that
--- are half way apart, equal, or come round.
+-- Worked cases of the definitions, each beside what it should give, under one statement: numbers that come round, are half way apart, or
+-- equal.
 use mathlib.Core.Path.{_≡_, refl}
 use mathlib.Core.Bool.{Bool, true, false}
 use mathlib.Core.List.{List, [], _∷_, map}
@@ -13,9 +13,10 @@ flag false = pos 0
 
 pub table : List (ℤ × ℤ)
 table =
-    (distanceOf 4294967295 0, pos 1)  -- M1
-    ∷ (distanceOf 0 2147483648, negsuc 2147483647)  -- M2: -2^31
-    ∷ (distanceOf 0 2147483647, pos 2147483647)  -- M3
+    (distanceOf 4294967290 10, pos 16)
+    ∷ (distanceOf 10 4294967290, negsuc 15)
+    ∷ (distanceOf 7 2147483655, negsuc 2147483647)  -- -2^31
+    ∷ (distanceOf 7 2147483654, pos 2147483647)
     ∷ (distanceOf 2147483648 0, negsuc 2147483647)
     ∷ (flag (isBefore 0 2147483648), pos 0)
     ∷ (flag (isBefore 2147483648 0), pos 0)

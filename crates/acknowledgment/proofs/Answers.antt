@@ -1,0 +1,127 @@
+-- What is answered, case by case, and what holds of every answer. Assumes nothing.
+use mathlib.Core.Bool.{Bool, true, false, cond}
+use mathlib.Core.List.{List}
+use mathlib.Core.Logic.{_↔_}
+use mathlib.Core.Path.{_≡_, refl, sym, ap, _∙_}
+use Prim.Native.Nat.{ℕ, _*_, _/_, _≤_, _<_}
+use native.Mathlib.Omega.{arith}
+use lib.Dec.{eqb, ltb}
+use lib.ListN.{drop, length}
+use borrow.Author.Tests.{le-ltb, lt-ltb, ltb-false, ltb-true}
+use Rattle.segment.specs.Writing as segment
+use Rattle.segment.specs.declared.Header.{Header}
+use Rattle.segment.specs.declared.Options.{Options}
+use Rattle.segment.specs.declared.Ports.{Ports}
+use Rattle.segment.specs.declared.Writing.{Writing}
+use Rattle.segment.proofs.Answers as writer
+use Rattle.segment.proofs.Lengths.{length-options, length-written, units-most}
+use Rattle.connection.specs.Calls.{acknowledgment, called}
+use Rattle.connection.specs.Operations.{acknowledged}
+use Rattle.connection.specs.declared.Connection.{Connection}
+use Rattle.acknowledgment.specs.Acknowledgment.{Answer, acknowledging, headerOf, optionsOf}
+use Rattle.acknowledgment.specs.ReadBack.{octetsOf}
+
+-- a refusal's number alone: the buffer and the record are those handed in
+abbrev pub refused : ℕ → List ℕ → Connection → Answer
+refused n buffer k = record { number = n; length = 0; buffer = buffer; connection = k }
+
+both-fail : {A B : Type 0} → (A → ⊥) → (B → ⊥) → A ↔ B
+both-fail f g = (λ a. absurd (f a), λ b. absurd (g b))
+
+module _ (k : Connection) (ports : Ports) (clock : ℕ) (buffer : List ℕ) where
+  abbrev since : ℕ
+  since = k .timestamping .since
+
+  abbrev octets : List ℕ
+  octets = octetsOf k ports clock
+
+  abbrev a : Answer
+  a = acknowledging k ports clock buffer
+
+  abbrev pub wrote : Answer
+  wrote = record { number = 0; length = length octets; buffer = segment.stored octets buffer; connection = acknowledged k }
+
+  -- E8, E7, or neither
+  pub clock-back-if : clock < since → a ≡ refused 8 buffer k
+  unfolding acknowledging
+  clock-back-if back = simp (lt-ltb _ _ back)
+
+  pub too-short-if : since ≤ clock → length buffer < length octets → a ≡ refused 7 buffer k
+  unfolding acknowledging
+  too-short-if on short = simp (le-ltb _ _ on, writer.refuses-if (headerOf k ports) (optionsOf k clock) buffer short)
+
+  pub writes-if : since ≤ clock → length octets ≤ length buffer → a ≡ wrote
+  unfolding acknowledging
+  writes-if on room = simp (le-ltb _ _ on, writer.writes-if (headerOf k ports) (optionsOf k clock) buffer room)
+
+  -- the record after what the writer of segments answered
+  abbrev after : segment.Answer → Answer
+  after w = record { number = w .number; length = w .length; buffer = w .buffer; connection = cond (eqb (w .number) 0) (acknowledged k) k }
+
+  -- where the clock is not refused, by the case that the code's writer answered
+  pub by-writing : since ≤ clock → (header : Header) (options : Options) → header ≡ headerOf k ports → options ≡ optionsOf k clock
+      → (w v : Writing) → w ≡ v → (exit : List ℕ) → segment.shownWriting w exit ≡ segment.writing header options buffer
+      → after (segment.shownWriting v exit) ≡ a
+  unfolding acknowledging
+  by-writing on header options x y w v same exit e =
+      (λ i. after (segment.shownWriting (sym same i) exit)) ∙ ap after (e ∙ (λ i. segment.writing (x i) (y i) buffer)) ∙ simp (le-ltb _ _ on)
+
+  by-cases : (P : Answer → Type 0) → (clock < since → P (refused 8 buffer k))
+      → (since ≤ clock → length buffer < length octets → P (refused 7 buffer k)) → (since ≤ clock → length octets ≤ length buffer → P wrote) → P a
+  by-cases P back short room = go (ltb clock since) refl (ltb (length buffer) (length octets)) refl
+    where
+      go : (s : Bool) → ltb clock since ≡ s → (t : Bool) → ltb (length buffer) (length octets) ≡ t → P a
+      go true e t f = rw (clock-back-if (ltb-true _ _ e)) (back (ltb-true _ _ e))
+      go false e true f = rw (too-short-if (ltb-false _ _ e) (ltb-true _ _ f)) (short (ltb-false _ _ e) (ltb-true _ _ f))
+      go false e false f = rw (writes-if (ltb-false _ _ e) (ltb-false _ _ f)) (room (ltb-false _ _ e) (ltb-false _ _ f))
+
+  -- Which number is given.
+  pub clock-back-exactly : a .number ≡ 8 ↔ clock < since
+  clock-back-exactly =
+      by-cases (λ x. x .number ≡ 8 ↔ clock < since) (λ back. (λ _. back, λ _. refl))
+      (λ on short. both-fail (λ e. omega arith) (λ b. omega arith))
+      (λ on room. both-fail (λ e. omega arith) (λ b. omega arith))
+
+  pub too-short-exactly : a .number ≡ 7 ↔ (since ≤ clock) × (length buffer < length octets)
+  too-short-exactly =
+      by-cases (λ x. x .number ≡ 7 ↔ (since ≤ clock) × (length buffer < length octets))
+      (λ back. both-fail (λ e. omega arith) (λ b. omega arith))
+      (λ on short. (λ _. (on, short), λ _. refl))
+      (λ on room. both-fail (λ e. omega arith) (λ b. omega arith))
+
+  pub written-exactly : a .number ≡ 0 ↔ (since ≤ clock) × (length octets ≤ length buffer)
+  written-exactly =
+      by-cases (λ x. x .number ≡ 0 ↔ (since ≤ clock) × (length octets ≤ length buffer))
+      (λ back. both-fail (λ e. omega arith) (λ b. omega arith))
+      (λ on short. both-fail (λ e. omega arith) (λ b. omega arith))
+      (λ on room. (λ _. (on, room), λ _. refl))
+
+  -- What a refusal leaves, and the record after an acknowledgment.
+  pub refusal-leaves : (a .number ≡ 0 → ⊥) → a ≡ refused (a .number) buffer k
+  refusal-leaves =
+      by-cases (λ x. (x .number ≡ 0 → ⊥) → x ≡ refused (x .number) buffer k) (λ back e. refl) (λ on short e. refl) (λ on room e. absurd (e refl))
+
+  -- an acknowledgment that is written is the call of that name, which sets Last.ACK.sent and nothing else
+  pub only-last-ack : a .number ≡ 0 → a .connection ≡ called k acknowledgment
+  only-last-ack =
+      by-cases (λ x. x .number ≡ 0 → x .connection ≡ called k acknowledgment) (λ back e. absurd (omega arith))
+      (λ on short e. absurd (omega arith)) (λ on room e. refl)
+
+  -- The buffer afterwards, and how much of it was written.
+  pub later-octets-stay : drop (a .length) (a .buffer) ≡ drop (a .length) buffer
+  later-octets-stay =
+      by-cases (λ x. drop (x .length) (x .buffer) ≡ drop (x .length) buffer) (λ back. refl) (λ on short. refl)
+      (λ on room. writer.later-stored octets buffer)
+
+  pub same-length : length (a .buffer) ≡ length buffer
+  same-length =
+      by-cases (λ x. length (x .buffer) ≡ length buffer) (λ back. refl) (λ on short. refl)
+      (λ on room. writer.length-stored octets buffer room)
+
+  pub multiple-of-4 : (a .length ≡ 4 * (a .length / 4)) × (a .length ≤ 60)
+  multiple-of-4 =
+      let all = length-written (headerOf k ports) (optionsOf k clock) in
+      let options = length-options (optionsOf k clock) in
+      let few = units-most (optionsOf k clock) in
+      by-cases (λ x. (x .length ≡ 4 * (x .length / 4)) × (x .length ≤ 60)) (λ back. (refl, omega arith)) (λ on short. (refl, omega arith))
+      (λ on room. (omega arith, omega arith))

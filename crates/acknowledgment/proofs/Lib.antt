@@ -1,0 +1,4 @@
+pub mod Answers
+mod First
+pub mod ReadBack
+pub mod Window

@@ -1,0 +1,71 @@
+-- An acknowledgment that is written is read back by our reader to the same fields, with all its SACK blocks. Assumes nothing.
+use mathlib.Core.Bool.{Bool, true, false, cond}
+use mathlib.Core.List.{List, [], _++_}
+use mathlib.Core.Path.{_≡_, refl, ap, _∙_}
+use Prim.Native.Nat.{ℕ, _-_, _/_, _≤_}
+use native.Mathlib.Omega.{arith}
+use lib.ListN.{length, length-take, take}
+use borrow.Author.Tests.{le-ltb}
+use Rattle.laws.proofs.Choices.{either}
+use Rattle.octets.specs.Octets.{bigEndian}
+use Rattle.serial.specs.declared.Range.{Range}
+use Rattle.serial.specs.declared.Stamp.{Stamp}
+use Rattle.segment.specs.Options.{blockList}
+use Rattle.segment.specs.Reading.{readAs, reading}
+use Rattle.segment.specs.Writing.{blocksOfList, fitting, mssWritten, othersWritten, scaleWritten, segmentWritten, timestampsWritten}
+use Rattle.segment.specs.declared.Options.{Options}
+use Rattle.segment.specs.declared.Ports.{Ports}
+use Rattle.segment.specs.declared.Timestamps.{Timestamps}
+use Rattle.segment.proofs.BlockLists.{blocks-back, list-back}
+use Rattle.segment.proofs.Lengths.{fits, length-written}
+use Rattle.segment.proofs.ReadBack.{buffer-read-back}
+use Rattle.receive.specs.Ranges.{rangesOf}
+use Rattle.connection.specs.declared.Connection.{Connection}
+use Rattle.acknowledgment.specs.Acknowledgment.{acknowledging, blocksOf, headerOf, optionsOf, timestampsOf}
+use Rattle.acknowledgment.specs.ReadBack.{octetsOf, segmentOf}
+
+-- room for so many blocks beside the timestamps
+stamps-room : (active : Bool) (value echoed : Stamp)
+    → (40 - length (timestampsWritten false (cond active (Timestamps.Pair value echoed) Timestamps.Absent) ++ []) - 4) / 8 ≡ cond active 3 4
+unfolding timestampsWritten bigEndian
+stamps-room true value echoed = refl
+stamps-room false value echoed = refl
+
+most-four : (active : Bool) → cond active 3 4 ≤ 4
+most-four true = omega arith
+most-four false = omega arith
+
+module _ (k : Connection) (ports : Ports) (clock : ℕ) where
+  abbrev options : Options
+  options = optionsOf k clock
+
+  blocks-most : length (blocksOf k) ≤ cond (k .timestamping .active) 3 4
+  unfolding blocksOf
+  blocks-most =
+      let n : ℕ = cond (k .timestamping .active) 3 4 in
+      either (λ (l : List Range). length l ≤ n) (k .sack) _ _ (λ _. omega (arith, length-take n (rangesOf (k .receive .held)))) (λ _. omega arith)
+
+  blocks-room : (40 - length (othersWritten options) - 4) / 8 ≡ cond (k .timestamping .active) 3 4
+  unfolding othersWritten optionsOf mssWritten scaleWritten timestampsOf
+  blocks-room = stamps-room (k .timestamping .active) _ _
+
+  -- the blocks that are read are all that the record shows
+  pub all-blocks : blockList (segmentOf k ports clock .options .blocks) ≡ blocksOf k
+  unfolding segmentOf optionsOf
+  all-blocks = list-back (blocksOf k) (omega (arith, blocks-most, most-four (k .timestamping .active)))
+
+  none-cut : blocksOfList (fitting options) ≡ options .blocks
+  unfolding segmentOf
+  none-cut =
+      let few : length (blockList (options .blocks)) ≤ (40 - length (othersWritten options) - 4) / 8 =
+      omega (arith, blocks-room, ap length all-blocks, blocks-most) in
+      ap blocksOfList (fits options few) ∙ blocks-back (options .blocks)
+
+  segment-is : segmentWritten (headerOf k ports) options ≡ segmentOf k ports clock
+  unfolding segmentWritten segmentOf headerOf optionsOf
+  segment-is = rw (none-cut, ← length-written (headerOf k ports) options)
+
+  pub read-back : (buffer : List ℕ) → k .timestamping .since ≤ clock → length (octetsOf k ports clock) ≤ length buffer
+      → reading (take (acknowledging k ports clock buffer .length) (acknowledging k ports clock buffer .buffer)) ≡ readAs (segmentOf k ports clock)
+  unfolding acknowledging
+  read-back buffer on room = simp (le-ltb _ _ on) (buffer-read-back (headerOf k ports) options buffer room ∙ ap readAs segment-is)

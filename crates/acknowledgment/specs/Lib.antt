@@ -1,0 +1,3 @@
+pub mod Acknowledgment
+pub mod ReadBack
+pub mod Vectors
