@@ -1,11 +1,11 @@
 -- What is answered, case by case, and what holds of every answer. Assumes nothing.
-use mathlib.Core.Bool.{Bool, true, false, cond}
+use mathlib.Core.Bool.{Bool, true, false}
 use mathlib.Core.List.{List}
 use mathlib.Core.Logic.{_↔_}
 use mathlib.Core.Path.{_≡_, refl, sym, ap, _∙_}
 use Prim.Native.Nat.{ℕ, _*_, _/_, _≤_, _<_}
 use native.Mathlib.Omega.{arith}
-use lib.Dec.{eqb, ltb}
+use lib.Dec.{ltb}
 use lib.ListN.{drop, length}
 use borrow.Author.Tests.{le-ltb, lt-ltb, ltb-false, ltb-true}
 use Rattle.segment.specs.Writing as segment
@@ -18,12 +18,8 @@ use Rattle.segment.proofs.Lengths.{length-options, length-written, units-most}
 use Rattle.connection.specs.Calls.{acknowledgment, called}
 use Rattle.connection.specs.Operations.{acknowledged}
 use Rattle.connection.specs.declared.Connection.{Connection}
-use Rattle.acknowledgment.specs.Acknowledgment.{Answer, acknowledging, headerOf, optionsOf}
+use Rattle.acknowledgment.specs.Acknowledgment.{Answer, acknowledging, answeredBy, headerOf, optionsOf, refused}
 use Rattle.acknowledgment.specs.ReadBack.{octetsOf}
-
--- a refusal's number alone: the buffer and the record are those handed in
-abbrev pub refused : ℕ → List ℕ → Connection → Answer
-refused n buffer k = record { number = n; length = 0; buffer = buffer; connection = k }
 
 both-fail : {A B : Type 0} → (A → ⊥) → (B → ⊥) → A ↔ B
 both-fail f g = (λ a. absurd (f a), λ b. absurd (g b))
@@ -54,17 +50,14 @@ module _ (k : Connection) (ports : Ports) (clock : ℕ) (buffer : List ℕ) wher
   unfolding acknowledging
   writes-if on room = simp (le-ltb _ _ on, writer.writes-if (headerOf k ports) (optionsOf k clock) buffer room)
 
-  -- the record after what the writer of segments answered
-  abbrev after : segment.Answer → Answer
-  after w = record { number = w .number; length = w .length; buffer = w .buffer; connection = cond (eqb (w .number) 0) (acknowledged k) k }
-
   -- where the clock is not refused, by the case that the code's writer answered
   pub by-writing : since ≤ clock → (header : Header) (options : Options) → header ≡ headerOf k ports → options ≡ optionsOf k clock
       → (w v : Writing) → w ≡ v → (exit : List ℕ) → segment.shownWriting w exit ≡ segment.writing header options buffer
-      → after (segment.shownWriting v exit) ≡ a
+      → answeredBy k (segment.shownWriting v exit) ≡ a
   unfolding acknowledging
   by-writing on header options x y w v same exit e =
-      (λ i. after (segment.shownWriting (sym same i) exit)) ∙ ap after (e ∙ (λ i. segment.writing (x i) (y i) buffer)) ∙ simp (le-ltb _ _ on)
+      (λ i. answeredBy k (segment.shownWriting (sym same i) exit)) ∙ ap (answeredBy k) (e ∙ (λ i. segment.writing (x i) (y i) buffer))
+      ∙ simp (le-ltb _ _ on)
 
   by-cases : (P : Answer → Type 0) → (clock < since → P (refused 8 buffer k))
       → (since ≤ clock → length buffer < length octets → P (refused 7 buffer k)) → (since ≤ clock → length octets ≤ length buffer → P wrote) → P a

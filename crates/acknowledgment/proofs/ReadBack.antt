@@ -2,7 +2,7 @@
 use mathlib.Core.Bool.{Bool, true, false, cond}
 use mathlib.Core.List.{List, [], _++_}
 use mathlib.Core.Path.{_≡_, refl, ap, _∙_}
-use Prim.Native.Nat.{ℕ, _-_, _/_, _≤_}
+use Prim.Native.Nat.{ℕ, _≤_}
 use native.Mathlib.Omega.{arith}
 use lib.ListN.{length, length-take, take}
 use borrow.Author.Tests.{le-ltb}
@@ -12,7 +12,7 @@ use Rattle.serial.specs.declared.Range.{Range}
 use Rattle.serial.specs.declared.Stamp.{Stamp}
 use Rattle.segment.specs.Options.{blockList}
 use Rattle.segment.specs.Reading.{readAs, reading}
-use Rattle.segment.specs.Writing.{blocksOfList, fitting, mssWritten, othersWritten, scaleWritten, segmentWritten, timestampsWritten}
+use Rattle.segment.specs.Writing.{blockRoom, blocksOfList, fitting, mssWritten, othersWritten, scaleWritten, segmentWritten, timestampsWritten}
 use Rattle.segment.specs.declared.Options.{Options}
 use Rattle.segment.specs.declared.Ports.{Ports}
 use Rattle.segment.specs.declared.Timestamps.{Timestamps}
@@ -26,7 +26,7 @@ use Rattle.acknowledgment.specs.ReadBack.{octetsOf, segmentOf}
 
 -- room for so many blocks beside the timestamps
 stamps-room : (active : Bool) (value echoed : Stamp)
-    → (40 - length (timestampsWritten false (cond active (Timestamps.Pair value echoed) Timestamps.Absent) ++ []) - 4) / 8 ≡ cond active 3 4
+    → blockRoom (length (timestampsWritten false (cond active (Timestamps.Pair value echoed) Timestamps.Absent) ++ [])) ≡ cond active 3 4
 unfolding timestampsWritten bigEndian
 stamps-room true value echoed = refl
 stamps-room false value echoed = refl
@@ -45,7 +45,7 @@ module _ (k : Connection) (ports : Ports) (clock : ℕ) where
       let n : ℕ = cond (k .timestamping .active) 3 4 in
       either (λ (l : List Range). length l ≤ n) (k .sack) _ _ (λ _. omega (arith, length-take n (rangesOf (k .receive .held)))) (λ _. omega arith)
 
-  blocks-room : (40 - length (othersWritten options) - 4) / 8 ≡ cond (k .timestamping .active) 3 4
+  blocks-room : blockRoom (length (othersWritten options)) ≡ cond (k .timestamping .active) 3 4
   unfolding othersWritten optionsOf mssWritten scaleWritten timestampsOf
   blocks-room = stamps-room (k .timestamping .active) _ _
 
@@ -57,7 +57,7 @@ module _ (k : Connection) (ports : Ports) (clock : ℕ) where
   none-cut : blocksOfList (fitting options) ≡ options .blocks
   unfolding segmentOf
   none-cut =
-      let few : length (blockList (options .blocks)) ≤ (40 - length (othersWritten options) - 4) / 8 =
+      let few : length (blockList (options .blocks)) ≤ blockRoom (length (othersWritten options)) =
       omega (arith, blocks-room, ap length all-blocks, blocks-most) in
       ap blocksOfList (fits options few) ∙ blocks-back (options .blocks)
 

@@ -6,7 +6,7 @@ use lib.Dec.{eqb, ltb}
 use lib.ListN.{take}
 use Rattle.serial.specs.Serial.{stampAt}
 use Rattle.serial.specs.declared.Range.{Range}
-use Rattle.segment.specs.Writing.{blocksOfList, writing}
+use Rattle.segment.specs.Writing as segment
 use Rattle.segment.specs.declared.Flags.{Flags}
 use Rattle.segment.specs.declared.Header.{Header}
 use Rattle.segment.specs.declared.Mss.{Mss}
@@ -49,7 +49,7 @@ optionsOf k clock = record {
   mss = Mss.Absent;
   scale = WindowScale.Absent;
   permitted = false;
-  blocks = blocksOfList (blocksOf k);
+  blocks = segment.blocksOfList (blocksOf k);
   timestamps = timestampsOf (k .timestamping) clock;
 }
 
@@ -60,12 +60,18 @@ pub record Answer : Type 0 where
   pub buffer : List ℕ
   pub connection : Connection
 
--- E8, then E7, which leave buffer and record; otherwise Last.ACK.sent = RCV.NXT, and nothing else in the record changes
+-- a refusal's number alone: the buffer and the record are those handed in
+abbrev pub refused : ℕ → List ℕ → Connection → Answer
+refused n buffer k = record { number = n; length = 0; buffer = buffer; connection = k }
+
+-- what writing answered, E7 among it, and the record after it: if octets were written, Last.ACK.sent = RCV.NXT, and nothing else changes
+abbrev pub answeredBy : Connection → segment.Answer → Answer
+answeredBy k w = record { number = w .number; length = w .length; buffer = w .buffer; connection = cond (eqb (w .number) 0) (acknowledged k) k }
+
+-- E8, then E7
 unfoldable pub acknowledging : Connection → Ports → ℕ → List ℕ → Answer
 acknowledging k ports clock buffer =
-    let w = writing (headerOf k ports) (optionsOf k clock) buffer in
-    cond (ltb clock (k .timestamping .since)) (record { number = 8; length = 0; buffer = buffer; connection = k })
-    (record { number = w .number; length = w .length; buffer = w .buffer; connection = cond (eqb (w .number) 0) (acknowledged k) k })
+    cond (ltb clock (k .timestamping .since)) (refused 8 buffer k) (answeredBy k (segment.writing (headerOf k ports) (optionsOf k clock) buffer))
 
 -- document 01's number of each refusal and outcome
 abbrev pub refusalNumber : AckRefusal → ℕ

@@ -188,6 +188,16 @@ fn acknowledged(k: Connection) -> Connection
     Connection { receive, ..k }
 }
 
+fn refused(k: Connection, why: AckRefusal) -> AckAnswer
+    ensures { λ r. ⌜ r ≡ record { outcome = AckOutcome.Refused why; connection = k } ⌝ }
+{
+    let outcome = AckOutcome::Refused(why);
+    AckAnswer {
+        outcome,
+        connection: k,
+    }
+}
+
 // Writes the acknowledgment of a record at the start of the buffer, and leaves the octets after it: E8, then E7.
 pub fn write(k: Connection, ports: Ports, clock: u64, buffer: &mut [u8]) -> AckAnswer
     requires { ⌜ Sound k ⌝ }
@@ -195,23 +205,13 @@ pub fn write(k: Connection, ports: Ports, clock: u64, buffer: &mut [u8]) -> AckA
     ensures sound { λ r. ⌜ Sound (r .connection) ⌝ }
 {
     if clock < k.timestamping.since {
-        let outcome = AckOutcome::Refused(AckRefusal::ClockBack);
-        return AckAnswer {
-            outcome,
-            connection: k,
-        };
+        return refused(k, AckRefusal::ClockBack);
     }
     let header = header_of(k, ports);
     let options = options_of(k, clock);
     let writing = segment::write(header, options, buffer);
     match writing {
-        Writing::BufferTooShort => {
-            let outcome = AckOutcome::Refused(AckRefusal::BufferTooShort);
-            AckAnswer {
-                outcome,
-                connection: k,
-            }
-        }
+        Writing::BufferTooShort => refused(k, AckRefusal::BufferTooShort),
         Writing::Octets(n) => {
             let outcome = AckOutcome::Written(n);
             let connection = acknowledged(k);

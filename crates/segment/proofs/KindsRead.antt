@@ -37,11 +37,11 @@ withBlocks o x = record { mss = o .mss; scale = o .scale; permitted = o .permitt
 abbrev pub withTimestamps : Options → Timestamps → Options
 withTimestamps o x = record { mss = o .mss; scale = o .scale; permitted = o .permitted; blocks = o .blocks; timestamps = x }
 
--- where the value is that of no option, no option is found
-none-found : {A : Type 0} (value : Found → A) (none : A) → ((at : ℕ) (octets : List ℕ) → value (found at octets) ≡ none → ⊥)
+-- Where the value is that of no option, no option is found. That two cases of an enum differ is shown by 0 and 1, which `cc` makes equal.
+not-found : {A : Type 0} (value : Found → A) (none : A) → ((at : ℕ) (octets : List ℕ) → value (found at octets) ≡ none → ⊥)
     → (f : Found) → value f ≡ none → isFound f ≡ false
-none-found value none some nothing e = refl
-none-found value none some (found at octets) e = absurd (some at octets e)
+not-found value none some nothing e = refl
+not-found value none some (found at octets) e = absurd (some at octets e)
 
 sack-some : (b : Range) (bs : List Range) → oneToFour b bs ≡ SackBlocks.Absent → ⊥
 unfolding oneToFour
@@ -54,11 +54,11 @@ sack-some a (b ∷ c ∷ d ∷ more) e = let z : _≡_ {A = ℕ} 0 1 = cc in ome
 module _ (before : List Step) where
   mss-new : optionsOf before .mss ≡ Mss.Absent → isRepeated before 2 ≡ false
   unfolding optionsOf isRepeated standsIn
-  mss-new = none-found mssOf Mss.Absent (λ at octets e. let z : _≡_ {A = ℕ} 0 1 = cc in omega arith) (optionOf 2 before)
+  mss-new = not-found mssOf Mss.Absent (λ at octets e. let z : _≡_ {A = ℕ} 0 1 = cc in omega arith) (optionOf 2 before)
 
   scale-new : optionsOf before .scale ≡ WindowScale.Absent → isRepeated before 3 ≡ false
   unfolding optionsOf isRepeated standsIn
-  scale-new = none-found scaleOf WindowScale.Absent (λ at octets e. let z : _≡_ {A = ℕ} 0 1 = cc in omega arith) (optionOf 3 before)
+  scale-new = not-found scaleOf WindowScale.Absent (λ at octets e. let z : _≡_ {A = ℕ} 0 1 = cc in omega arith) (optionOf 3 before)
 
   permitted-new : optionsOf before .permitted ≡ false → isRepeated before 4 ≡ false
   unfolding optionsOf isRepeated standsIn
@@ -66,11 +66,11 @@ module _ (before : List Step) where
 
   sack-new : optionsOf before .blocks ≡ SackBlocks.Absent → isRepeated before 5 ≡ false
   unfolding optionsOf isRepeated standsIn
-  sack-new = none-found blocksOf SackBlocks.Absent (λ at octets e. sack-some _ _ e) (optionOf 5 before)
+  sack-new = not-found blocksOf SackBlocks.Absent (λ at octets e. sack-some _ _ e) (optionOf 5 before)
 
   timestamps-new : optionsOf before .timestamps ≡ Timestamps.Absent → isRepeated before 8 ≡ false
   unfolding optionsOf isRepeated standsIn
-  timestamps-new = none-found timestampsOf Timestamps.Absent (λ at octets e. let z : _≡_ {A = ℕ} 0 1 = cc in omega arith) (optionOf 8 before)
+  timestamps-new = not-found timestampsOf Timestamps.Absent (λ at octets e. let z : _≡_ {A = ℕ} 0 1 = cc in omega arith) (optionOf 8 before)
 
 sack-length : (n : ℕ) → n ≤ 3 → isWrongLength 5 (8 * suc n + 2) ≡ false
 unfolding isWrongLength lengthsOf standsIn

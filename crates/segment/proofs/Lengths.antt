@@ -9,7 +9,7 @@ use lib.Seq.{take-all}
 use Rattle.octets.specs.Octets.{bigEndian}
 use Rattle.serial.specs.declared.Range.{Range}
 use Rattle.segment.specs.Options.{blockList}
-use Rattle.segment.specs.Writing.{blocksWritten, fitting, headerWritten, mssWritten, optionsWritten, othersWritten, sackWritten, scaleWritten, timestampsWritten, written}
+use Rattle.segment.specs.Writing.{blockRoom, blocksWritten, fitting, headerWritten, mssWritten, optionsWritten, othersWritten, sackWritten, scaleWritten, timestampsWritten, written}
 use Rattle.segment.specs.declared.Header.{Header}
 use Rattle.segment.specs.declared.Mss.{Mss}
 use Rattle.segment.specs.declared.Options.{Options}
@@ -62,12 +62,12 @@ module _ (o : Options) where
   aligned-others =
       aligned-append (aligned-mss (o .mss)) (aligned-append (aligned-timestamps (o .permitted) (o .timestamps)) (aligned-scale (o .scale)))
 
-  pub fitting-most : length (fitting o) ≤ (40 - length (othersWritten o) - 4) / 8
+  pub fitting-most : length (fitting o) ≤ blockRoom (length (othersWritten o))
   unfolding fitting
-  fitting-most = omega (arith, length-take ((40 - length (othersWritten o) - 4) / 8) (blockList (o .blocks)))
+  fitting-most = omega (arith, length-take (blockRoom (length (othersWritten o))) (blockList (o .blocks)))
 
   -- where all blocks fit, none is left out
-  pub fits : length (blockList (o .blocks)) ≤ (40 - length (othersWritten o) - 4) / 8 → fitting o ≡ blockList (o .blocks)
+  pub fits : length (blockList (o .blocks)) ≤ blockRoom (length (othersWritten o)) → fitting o ≡ blockList (o .blocks)
   unfolding fitting
   fits few = take-all _ (blockList (o .blocks)) few
 
@@ -76,7 +76,7 @@ module _ (o : Options) where
   aligned-options =
       let others : Aligned (othersWritten o) 20 = aligned-others in
       let left : ℕ = 40 - length (othersWritten o) in
-      let sack : Aligned (sackWritten (fitting o)) left = aligned-sack (fitting o) left (omega arith) fitting-most in
+      let sack : Aligned (sackWritten (fitting o)) left = aligned-sack (fitting o) left (omega arith) (omega (arith, fitting-most)) in
       record {
         whole = aligned-append others sack .whole;
         most = omega (arith, length-append (othersWritten o) (sackWritten (fitting o)));

@@ -35,12 +35,12 @@ module _ (h : Header) (o : Options) where
     offset-most = omega (arith, end-is, length-written h o);
   }
 
-  options-there : optionOctets (written h o) ≡ optionsWritten o
+  options-octets : optionOctets (written h o) ≡ optionsWritten o
   unfolding written headerWritten bigEndian
-  options-there = ap (drop 20) (take-all (4 * dataOffset (written h o)) (written h o) (omega (arith, end-is, length-written h o)))
+  options-octets = ap (drop 20) (take-all (4 * dataOffset (written h o)) (written h o) (omega (arith, end-is, length-written h o)))
 
   options-said : Said [] (stepsOf (written h o)) (withBlocks o (blocksOfList (fitting o)))
-  options-said = rw options-there (options-read o .steps 20 [] refl)
+  options-said = rw options-octets (options-read o .steps 20 [] refl)
 
   -- each field of the header is the number that was written there
   fields-back : segmentOf (written h o) (20 + length (optionsWritten o)) (withBlocks o (blocksOfList (fitting o))) ≡ segmentWritten h o
@@ -66,13 +66,13 @@ module _ (h : Header) (o : Options) where
       read-if (written h o) passed (options-said .0)
       ∙ ap readAs (rw (options-said .1, end-is) fields-back)
 
-  -- what the reader does not look at is 0: the low half of octet 12, and the checksum
-  pub unread-zero : (getD (written h o) 12 0 % 16 ≡ 0) × (numberAt 2 (written h o) 16 ≡ 0)
-  unfolding written headerWritten bigEndian numberAt
-  unread-zero = (omega arith, refl)
-
   -- and so are the octets that the writer leaves at the start of a buffer
   pub buffer-read-back : (buffer : List ℕ) → length (written h o) ≤ length buffer
       → reading (take (writing h o buffer .length) (writing h o buffer .buffer)) ≡ readAs (segmentWritten h o)
   buffer-read-back buffer room =
       rw (writes-if h o buffer room, take-append-seam (written h o) (drop (length (written h o)) buffer)) read-back
+
+  -- what the reader does not look at is 0: the low half of octet 12, and the checksum
+  pub unread-zero : (getD (written h o) 12 0 % 16 ≡ 0) × (numberAt 2 (written h o) 16 ≡ 0)
+  unfolding written headerWritten bigEndian numberAt
+  unread-zero = (omega arith, refl)

@@ -7,15 +7,20 @@ use native.Mathlib.Omega.{arith}
 use lib.ListN.{length, length-append, take}
 use lib.Seq.{sets}
 use Rattle.octets.specs.Octets.{bigEndian}
+use Rattle.octets.proofs.ReadBack.{length-bigEndian}
 use Rattle.octets.proofs.Stores.{sets-front, sets-then}
 use Rattle.serial.specs.declared.Range.{Range}
 use Rattle.serial.specs.declared.Stamp.{Stamp}
 use Rattle.segment.specs.Options.{blockList}
-use Rattle.segment.specs.Writing.{blocksWritten, fitting, headerWritten, mssWritten, optionsWritten, othersWritten, sackWritten, scaleWritten, stored, timestampsWritten, written}
+use Rattle.segment.specs.Writing.{blockRoom, blocksWritten, fitting, headerWritten, mssWritten, optionsWritten, othersWritten, sackWritten, scaleWritten, stored, timestampsWritten, written}
 use Rattle.segment.specs.declared.Header.{Header}
 use Rattle.segment.specs.declared.Options.{Options}
 use Rattle.segment.specs.declared.Timestamps.{Timestamps}
 use Rattle.segment.proofs.Lengths.{aligned-options, length-header, length-written}
+
+-- a store at the place where the last one ended
+next-stored : (l : List ℕ) {k m : List ℕ} (i : ℕ) (xs ys : List ℕ) (j : ℕ) → j ≡ i + length xs → m ≡ sets l i xs → k ≡ sets m j ys → k ≡ sets l i (xs ++ ys)
+next-stored l {k} {m} i xs ys j place first second = sets-then l i xs ys first (second ∙ ap (λ (n : ℕ). sets m n ys) place)
 
 -- timestamps are as long beside SACK-permitted as beside two NOPs
 pub length-both : (permitted : Bool) (value echoed : Stamp) → length (timestampsWritten permitted (Timestamps.Pair value echoed)) ≡ 12
@@ -23,31 +28,31 @@ unfolding timestampsWritten bigEndian
 length-both true value echoed = refl
 length-both false value echoed = refl
 
+-- four octets, TSval and TSecr
+start-stored : (l : List ℕ) {k m n : List ℕ} (at : ℕ) (start : List ℕ) (value echoed : ℕ) → length start ≡ 4 → m ≡ sets l at start
+    → n ≡ sets m (at + 4) (bigEndian 4 value) → k ≡ sets n (at + 8) (bigEndian 4 echoed)
+    → k ≡ sets l at (start ++ (bigEndian 4 value ++ bigEndian 4 echoed))
+start-stored l {k} {m} {n} at start value echoed four first second third =
+    let stamp : length (bigEndian 4 value) ≡ 4 = length-bigEndian 4 value in
+    let pair = next-stored l at start (bigEndian 4 value) (at + 4) (omega (arith, four)) first second in
+    next-stored l at (start ++ bigEndian 4 value) (bigEndian 4 echoed) (at + 8) (omega (arith, four, stamp, length-append start (bigEndian 4 value))) pair third
+    ∙ ap (sets l at) (append-assoc start (bigEndian 4 value) (bigEndian 4 echoed))
+
 pub stamps-stored : (l : List ℕ) {k m n : List ℕ} (at : ℕ) (permitted : Bool) (value echoed : Stamp)
     → m ≡ sets l at (cond permitted (4 ∷ 2 ∷ 8 ∷ 10 ∷ []) (1 ∷ 1 ∷ 8 ∷ 10 ∷ []))
     → n ≡ sets m (at + 4) (bigEndian 4 (value .0)) → k ≡ sets n (at + 8) (bigEndian 4 (echoed .0))
-    → (k ≡ sets l at (timestampsWritten permitted (Timestamps.Pair value echoed)))
-    × (at + 12 ≡ at + length (timestampsWritten permitted (Timestamps.Pair value echoed)))
-unfolding timestampsWritten bigEndian
-stamps-stored l at true value echoed first second third =
-    let start : List ℕ = 4 ∷ 2 ∷ 8 ∷ 10 ∷ [] in (
-      sets-then l at (start ++ bigEndian 4 (value .0)) (bigEndian 4 (echoed .0)) (sets-then l at start (bigEndian 4 (value .0)) first second) third,
-      refl,
-    )
-stamps-stored l at false value echoed first second third =
-    let start : List ℕ = 1 ∷ 1 ∷ 8 ∷ 10 ∷ [] in (
-      sets-then l at (start ++ bigEndian 4 (value .0)) (bigEndian 4 (echoed .0)) (sets-then l at start (bigEndian 4 (value .0)) first second) third,
-      refl,
-    )
+    → k ≡ sets l at (timestampsWritten permitted (Timestamps.Pair value echoed))
+unfolding timestampsWritten
+stamps-stored l at true value echoed = start-stored l at (4 ∷ 2 ∷ 8 ∷ 10 ∷ []) (value .0) (echoed .0) refl
+stamps-stored l at false value echoed = start-stored l at (1 ∷ 1 ∷ 8 ∷ 10 ∷ []) (value .0) (echoed .0) refl
 
 -- two blocks of a SACK option at `at`, and those after them
 pub blocks-stored : (l : List ℕ) {k m : List ℕ} (at : ℕ) (a b : Range) (bs : List Range)
     → m ≡ sets l (at + 4) (blocksWritten (a ∷ b ∷ [])) → k ≡ sets m (at + 20) (blocksWritten bs)
     → k ≡ sets l (at + 4) (blocksWritten (a ∷ b ∷ bs))
 unfolding blocksWritten bigEndian
-blocks-stored l {k} {m} at a b bs first second =
-    let place : at + 20 ≡ at + 4 + 16 = omega arith in
-    sets-then l (at + 4) (blocksWritten (a ∷ b ∷ [])) (blocksWritten bs) first (second ∙ ap (λ (j : ℕ). sets m j (blocksWritten bs)) place)
+blocks-stored l at a b bs first second =
+    next-stored l (at + 4) (blocksWritten (a ∷ b ∷ [])) (blocksWritten bs) (at + 20) (omega arith) first second
 
 -- the start of a SACK option, and its blocks
 pub sack-stored : (l : List ℕ) {k m : List ℕ} (at : ℕ) (b : Range) (bs : List Range)
@@ -55,10 +60,6 @@ pub sack-stored : (l : List ℕ) {k m : List ℕ} (at : ℕ) (b : Range) (bs : L
     → k ≡ sets l at (sackWritten (b ∷ bs))
 unfolding sackWritten
 sack-stored l at b bs first second = sets-then l at (1 ∷ 1 ∷ 5 ∷ (8 * length (b ∷ bs) + 2) ∷ []) (blocksWritten (b ∷ bs)) first second
-
--- a store at the place where the last one ended
-next-stored : (l : List ℕ) {k m : List ℕ} (i : ℕ) (xs ys : List ℕ) (j : ℕ) → j ≡ i + length xs → m ≡ sets l i xs → k ≡ sets m j ys → k ≡ sets l i (xs ++ ys)
-next-stored l {k} {m} i xs ys j place first second = sets-then l i xs ys first (second ∙ ap (λ (n : ℕ). sets m n ys) place)
 
 -- the options, each where the last one ended
 module _ (o : Options) where
@@ -84,10 +85,10 @@ module _ (o : Options) where
 
 -- the blocks that fit, by how many octets the other options have
 module _ (o : Options) (others : ℕ) (bs : List Range) (same : others ≡ length (othersWritten o))
-    (are : bs ≡ take ((40 - others - 4) / 8) (blockList (o .blocks))) where
+    (are : bs ≡ take (blockRoom others) (blockList (o .blocks))) where
   pub blocks-fit : bs ≡ fitting o
   unfolding fitting
-  blocks-fit = are ∙ ap (λ (n : ℕ). take ((40 - n - 4) / 8) (blockList (o .blocks))) same
+  blocks-fit = are ∙ ap (λ (n : ℕ). take (blockRoom n) (blockList (o .blocks))) same
 
   pub size-is : (h : Header) (sack : ℕ) → sack ≡ length (sackWritten bs) → 20 + others + sack ≡ length (written h o)
   unfolding optionsWritten

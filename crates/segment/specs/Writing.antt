@@ -66,10 +66,14 @@ sackWritten (b ∷ bs) = 1 ∷ 1 ∷ 5 ∷ (8 * length (b ∷ bs) + 2) ∷ block
 unfoldable pub othersWritten : Options → List ℕ
 othersWritten o = mssWritten (o .mss) ++ (timestampsWritten (o .permitted) (o .timestamps) ++ scaleWritten (o .scale))
 
--- the blocks that are written: as many of the first as fit beside the others in the header's 40 octets of options, of which the SACK
--- option's NOPs, kind and length take four and each block eight
+-- how many blocks fit beside so many octets of others: a header has 40 octets of options, of which the SACK option's NOPs, kind and
+-- length take four and each block eight
+abbrev pub blockRoom : ℕ → ℕ
+blockRoom others = (40 - others - 4) / 8
+
+-- the blocks that are written: as many of the first as fit
 unfoldable pub fitting : Options → List Range
-fitting o = take ((40 - length (othersWritten o) - 4) / 8) (blockList (o .blocks))
+fitting o = take (blockRoom (length (othersWritten o))) (blockList (o .blocks))
 
 unfoldable pub optionsWritten : Options → List ℕ
 optionsWritten o = othersWritten o ++ sackWritten (fitting o)
@@ -83,7 +87,7 @@ unfoldable pub blocksOfList : List Range → SackBlocks
 blocksOfList [] = SackBlocks.Absent
 blocksOfList (b ∷ bs) = oneToFour b bs
 
--- what our reader is to make of it: these fields, urgent 0, these options and no other, no payload
+-- what our reader is to make of it: these fields, urgent 0, these options with the blocks that fit, no other option, no payload
 unfoldable pub segmentWritten : Header → Options → Segment
 segmentWritten h o = record {
   source = h .ports .source;

@@ -2,11 +2,11 @@
 ghost use mathlib.Core.Path.{_≡_};
 ghost use mathlib.Core.Bool.{cond};
 ghost use mathlib.Core.List.{[], _∷_};
-ghost use Prim.Native.Nat.{_+_, _-_, _/_, _≤_};
+ghost use Prim.Native.Nat.{_+_, _≤_};
 ghost use lib.ListN.{length, take};
 ghost use lib.Seq.{sets};
 ghost use Rattle.segment.specs.Options.{blockList};
-ghost use Rattle.segment.specs.Writing.{blocksWritten, fitting, flagsWritten, headerWritten, mssWritten, optionsWritten, othersWritten, sackWritten, scaleWritten, timestampsWritten};
+ghost use Rattle.segment.specs.Writing.{blockRoom, blocksWritten, fitting, flagsWritten, headerWritten, mssWritten, optionsWritten, othersWritten, sackWritten, scaleWritten, timestampsWritten};
 use super::Flags;
 use super::Header;
 use super::Mss;
@@ -256,7 +256,7 @@ pub fn sack_size(blocks: SackBlocks) -> usize
 // As many of the first blocks as fit beside other options of so many octets.
 pub fn fitting(others: usize, blocks: SackBlocks) -> SackBlocks
     requires { ⌜ others ≤ 20 ⌝ }
-    ensures { λ r. ⌜ blockList r ≡ take ((40 - others - 4) / 8) (blockList blocks) ⌝ }
+    ensures { λ r. ⌜ blockList r ≡ take (blockRoom others) (blockList blocks) ⌝ }
 {
     let room = (40 - others - 4) / 8;
     match blocks {

@@ -1,10 +1,10 @@
 -- `segment::writer::fitting` meets its contract. Assumes nothing.
-use Prim.Native.Nat.{_-_, _/_}
 use native.Mathlib.Omega.{arith}
 use mathlib.Core.List.{[], _∷_}
 use mathlib.Core.Path.{sym, _∙_}
 use lib.Seq.{take-all, take-append-le}
 use borrow.Author.Needs.{needs}
+use Rattle.segment.specs.Writing.{blockRoom}
 use Rattle.segment.proofs.writer.fitting.Statement.{statement}
 use Rattle.segment.proofs.writer.fitting.Tie as tie
 
@@ -40,20 +40,20 @@ returns c =
     let four = c .before .before .before .blocks5 .given in
     rw (four .1)
     (c .fitting-of-three2 .ensures
-    ∙ sym (take-append-le ((40 - c .before .before .before .before .before .args .others - 4) / 8) (four .0 .0 ∷ four .0 .1 .0 ∷ four .0 .1 .1 .0 ∷ []) (four .0 .1 .1 .1 .0 ∷ []) (omega (arith, c .before .if1 .taken))))
+    ∙ sym (take-append-le (blockRoom (c .before .before .before .before .before .args .others)) (four .0 .0 ∷ four .0 .1 .0 ∷ four .0 .1 .1 .0 ∷ []) (four .0 .1 .1 .1 .0 ∷ []) (omega (arith, c .before .if1 .taken))))
 
 returns-2 : tie.Need-returns-2
-returns-2 c = rw (c .enum-told .given .1) (sym (take-all ((40 - c .before .before .args .others - 4) / 8) [] (omega arith)))
+returns-2 c = rw (c .enum-told .given .1) (sym (take-all (blockRoom (c .before .before .args .others)) [] (omega arith)))
 
 returns-3 : tie.Need-returns-3
 returns-3 c =
     let one = c .before .blocks2 .given in
-    rw (one .1) (sym (take-all ((40 - c .before .before .before .args .others - 4) / 8) (one .0 .0 ∷ []) (omega arith)))
+    rw (one .1) (sym (take-all (blockRoom (c .before .before .before .args .others)) (one .0 .0 ∷ []) (omega arith)))
 
 returns-4 : tie.Need-returns-4
 returns-4 c =
     let two = c .before .blocks3 .given in
-    rw (two .1) (sym (take-all ((40 - c .before .before .before .args .others - 4) / 8) (two .0 .0 ∷ two .0 .1 .0 ∷ []) (omega arith)))
+    rw (two .1) (sym (take-all (blockRoom (c .before .before .before .args .others)) (two .0 .0 ∷ two .0 .1 .0 ∷ []) (omega arith)))
 
 returns-5 : tie.Need-returns-5
 returns-5 c = rw (c .before .before .blocks4 .given .1) (c .fitting-of-three .ensures)
@@ -61,7 +61,7 @@ returns-5 c = rw (c .before .before .blocks4 .given .1) (c .fitting-of-three .en
 returns-6 : tie.Need-returns-6
 returns-6 c =
     let four = c .before .before .blocks5 .given in
-    rw (four .1) (sym (take-all ((40 - c .before .before .before .before .args .others - 4) / 8) (four .0 .0 ∷ four .0 .1 .0 ∷ four .0 .1 .1 .0 ∷ four .0 .1 .1 .1 .0 ∷ []) (omega (arith, c .if1 .left))))
+    rw (four .1) (sym (take-all (blockRoom (c .before .before .before .before .args .others)) (four .0 .0 ∷ four .0 .1 .0 ∷ four .0 .1 .1 .0 ∷ four .0 .1 .1 .1 .0 ∷ []) (omega (arith, c .if1 .left))))
 
 pub fitting-spec : {M : Type 1} → statement M
 fitting-spec =

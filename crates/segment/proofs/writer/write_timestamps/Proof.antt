@@ -1,7 +1,8 @@
 -- `segment::writer::write_timestamps` meets its contract. Assumes nothing.
+use native.Mathlib.Omega.{arith}
 use denote.Ref.{now}
 use borrow.Author.Needs.{needs}
-use Rattle.segment.proofs.Storing.{stamps-stored}
+use Rattle.segment.proofs.Storing.{length-both, stamps-stored}
 use Rattle.segment.proofs.writer.write_timestamps.Statement.{statement}
 use Rattle.segment.proofs.writer.write_timestamps.Tie as tie
 
@@ -48,8 +49,11 @@ returns-2 c =
     let p1 = p2 .before .before .before .before in
     let stamps = p1 .before .before .before .timestamps .given in
     let a = p1 .before .before .before .before .before .before .args in
-    rw (stamps .1)
-    (stamps-stored (now (a .octets)) (a .at) (a .permitted) (stamps .0 .0) (stamps .0 .1 .0) (p1 .write-stamps-start .ensures) (p2 .write-u32 .ensures) (p3 .write-u322 .ensures))
+    let size = length-both (a .permitted) (stamps .0 .0) (stamps .0 .1 .0) in
+    rw (stamps .1) (
+      stamps-stored (now (a .octets)) (a .at) (a .permitted) (stamps .0 .0) (stamps .0 .1 .0) (p1 .write-stamps-start .ensures) (p2 .write-u32 .ensures) (p3 .write-u322 .ensures),
+      omega (arith, size),
+    )
 
 pub write-timestamps-spec : {M : Type 1} → statement M
 write-timestamps-spec =
