@@ -125,6 +125,18 @@ pub enum Reading {
     Refused(Refusal),
 }
 
+impl Reading {
+    // The refusal's number, 0 where the segment can be read.
+    pub fn number(self) -> u8
+        ensures { λ r. ⌜ r ≡ shown self .number ⌝ }
+    {
+        match self {
+            Reading::Segment(_) => 0,
+            Reading::Refused(why) => why.number(),
+        }
+    }
+}
+
 // The ports of a segment that is written.
 pub struct Ports {
     pub source: u16,

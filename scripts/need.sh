@@ -1,0 +1,31 @@
+# For the scripts of this repository, which source it: a command that is missing is installed from Debian's packages.
+
+# need COMMAND PACKAGE..: ends the script with a clear error where the command cannot be had.
+need() {
+    local command=$1
+    shift
+    if command -v "$command" >/dev/null; then
+        return
+    fi
+    echo "installing $*, for the command $command" >&2
+    local as_root=()
+    if [ "$(id -u)" != 0 ]; then
+        as_root=(sudo)
+    fi
+    if ! { "${as_root[@]}" apt-get -q update && "${as_root[@]}" apt-get -q install -y "$@"; } >&2; then
+        echo "error: could not install $* from Debian's packages" >&2
+        exit 2
+    fi
+    if ! command -v "$command" >/dev/null; then
+        echo "error: there is no command $command, even with $* installed" >&2
+        exit 2
+    fi
+}
+
+# The toolchain is not among Debian's packages.
+need_toolchain() {
+    if ! command -v rt >/dev/null; then
+        echo "error: rt, the command of the Rattle toolchain, is not on the PATH" >&2
+        exit 2
+    fi
+}
