@@ -30,6 +30,18 @@ pub enum SampleAnswer {
     Refused,
 }
 
+impl SampleAnswer {
+    // The answer's number, 0 or 14.
+    pub fn number(self) -> u8
+        ensures { λ r. ⌜ r ≡ shown self .number ⌝ }
+    {
+        match self {
+            SampleAnswer::Moved(_) => 0,
+            SampleAnswer::Refused => 14,
+        }
+    }
+}
+
 impl Timer {
     pub fn new() -> Timer
         ensures { λ r. ⌜ r ≡ newTimer ⌝ }

@@ -1,0 +1,68 @@
+// What a script works on: one connection record and one timer.
+ghost use Rattle.connection.specs.Record.{Sound};
+use connection::Connection;
+use connection::OpenAnswer;
+use connection::Setup;
+use offers::Offers;
+use offers::Scale;
+use rto::Timer;
+use serial::Seq;
+
+pub struct Session {
+    // Whether a record has been opened; until then the connection is a blank one.
+    pub open: bool,
+    pub connection: Connection,
+    pub timer: Timer,
+}
+
+// The session after a call, and the length of the answer's text.
+pub struct Step {
+    pub session: Session,
+    pub length: usize,
+}
+
+// A session without a record.
+pub fn new() -> Session
+    ensures { λ r. ⌜ Sound (r .connection) ⌝ }
+{
+    let offers = Offers {
+        scale: Scale::Absent,
+        timestamps: false,
+        sack: false,
+    };
+    let setup = Setup {
+        iss: Seq(0),
+        offers,
+        window: 0,
+        offset: 0,
+    };
+    // No octets are no SYN: the opening is refused, and its record is the blank one.
+    let refused = Connection::open(setup, 0, &[]);
+    let connection = refused.connection;
+    let timer = Timer::new();
+    Session {
+        open: false,
+        connection,
+        timer,
+    }
+}
+
+impl Session {
+    // The session with the record that was opened, or as it was where the opening was refused.
+    pub fn opened(self, answer: OpenAnswer) -> Session
+        requires { ⌜ Sound (self .connection) ⌝ }
+        requires { ⌜ Sound (answer .connection) ⌝ }
+        ensures { λ r. ⌜ Sound (r .connection) ⌝ }
+    {
+        let outcome = answer.outcome;
+        if outcome.number() != 0 {
+            return self;
+        }
+        let connection = answer.connection;
+        Session {
+            open: true,
+            connection,
+            ..self
+        }
+    }
+}
