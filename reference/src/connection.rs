@@ -1,0 +1,342 @@
+//! The connection record: opening, the verdict on an arriving segment, and what taking it changes.
+
+use crate::options::Timestamps;
+use crate::ranges::{HeldRanges, Range, SackBlocks};
+use crate::refusal::Refusal;
+use crate::segment::Segment;
+use crate::serial::{Seq, Stamp};
+use crate::timer::Timer;
+use crate::verdict::{Part, Reason, Taken, Verdict};
+
+pub const MAX_SHIFT: u8 = 14;
+/// The largest value of the window field.
+pub const MAX_WINDOW_FIELD: u32 = 65_535;
+/// TS.Recent is outdated when more than these ms, 24 days, have gone by since it was set.
+pub const OUTDATED_AFTER: u64 = 24 * 24 * 60 * 60 * 1_000;
+
+const DEFAULT_MSS: u16 = 536;
+
+/// Our side of the opening.
+#[derive(Clone, Copy, Debug, PartialEq, Eq)]
+pub struct Opening {
+    pub iss: Seq,
+    pub shift: Option<u8>,
+    pub timestamps: bool,
+    pub sack: bool,
+    pub window: u32,
+    pub offset: u32,
+    pub clock: u64,
+}
+
+impl Opening {
+    fn is_allowed(&self) -> bool {
+        self.shift.unwrap_or(0) <= MAX_SHIFT && self.window <= MAX_WINDOW_FIELD
+    }
+}
+
+/// The record of one connection.
+#[derive(Clone, Copy, Debug, PartialEq, Eq)]
+pub struct Connection {
+    pub rcv_nxt: Seq,
+    pub rcv_wnd: u32,
+    pub last_ack_sent: Seq,
+    pub rcv_shift: u8,
+    pub snd_shift: u8,
+    pub snd_una: Seq,
+    pub snd_nxt: Seq,
+    pub snd_wnd: u32,
+    pub snd_wl1: Seq,
+    pub snd_wl2: Seq,
+    pub timestamps: bool,
+    pub ts_recent: Stamp,
+    pub ts_recent_clock: u64,
+    pub offset: u32,
+    pub sack: bool,
+    pub mss: u16,
+    pub held: HeldRanges,
+    pub timer: Timer,
+}
+
+impl Connection {
+    /// Opens a record from our side of the opening and the peer's SYN segment.
+    pub fn open(opening: &Opening, octets: &[u8]) -> Result<Connection, Refusal> {
+        if !opening.is_allowed() {
+            return Err(Refusal::OwnOffer);
+        }
+        let syn = Segment::read(octets)?;
+        if !syn.flags.syn() || syn.flags.rst() {
+            return Err(Refusal::NotAnOpeningSyn);
+        }
+        let first = opening.iss.plus(1);
+        let acknowledged = syn.flags.ack();
+        if acknowledged && syn.ack != first {
+            return Err(Refusal::WrongOpeningAck);
+        }
+        let (rcv_shift, snd_shift) = agreed_shifts(opening.shift, syn.options.scale);
+        let stamp = syn.options.timestamps.filter(|_| opening.timestamps);
+        Ok(Connection {
+            rcv_nxt: syn.seq.plus(1),
+            rcv_wnd: opening.window,
+            last_ack_sent: syn.seq.plus(1),
+            rcv_shift,
+            snd_shift,
+            snd_una: if acknowledged { first } else { opening.iss },
+            snd_nxt: first,
+            // The window of a SYN is never scaled.
+            snd_wnd: u32::from(syn.window),
+            snd_wl1: syn.seq,
+            snd_wl2: if acknowledged { syn.ack } else { opening.iss },
+            timestamps: stamp.is_some(),
+            ts_recent: stamp.map_or(Stamp(0), |stamp| stamp.value),
+            ts_recent_clock: opening.clock,
+            offset: opening.offset,
+            sack: opening.sack && syn.options.sack_permitted,
+            mss: syn.options.mss.unwrap_or(DEFAULT_MSS),
+            held: HeldRanges::default(),
+            timer: Timer::default(),
+        })
+    }
+
+    /// Judges an arriving segment and, where it is taken, changes the record by it.
+    pub fn arrive(&mut self, clock: u64, octets: &[u8]) -> Result<Verdict, Refusal> {
+        let segment = Segment::read(octets)?;
+        self.check_clock(clock)?;
+        Ok(match self.judge(clock, &segment) {
+            Ok(part) => Verdict::Take(self.take(clock, &segment, part)),
+            Err(verdict) => verdict,
+        })
+    }
+
+    /// Notes `count` octets as sent.
+    pub fn note_sent(&mut self, count: u32) -> Result<(), Refusal> {
+        let outstanding = u64::from(self.snd_una.offset_of(self.snd_nxt));
+        if outstanding + u64::from(count) > u64::from(self.snd_wnd) {
+            return Err(Refusal::BeyondSendWindow);
+        }
+        self.snd_nxt = self.snd_nxt.plus(count);
+        Ok(())
+    }
+
+    /// Opens the receive window to `window`.
+    pub fn open_window(&mut self, window: u32) -> Result<(), Refusal> {
+        if window < self.rcv_wnd || window > self.max_rcv_wnd() {
+            return Err(Refusal::ReceiveWindow);
+        }
+        self.rcv_wnd = window;
+        Ok(())
+    }
+
+    /// Tells the record that its retransmission timer expired.
+    pub fn expire(&mut self) {
+        self.timer.expire();
+    }
+
+    /// The largest receive window that the window field can announce.
+    pub fn max_rcv_wnd(&self) -> u32 {
+        MAX_WINDOW_FIELD << self.rcv_shift
+    }
+
+    /// Our timestamp at a clock.
+    pub fn stamp(&self, clock: u64) -> Stamp {
+        Stamp::of_clock(clock, self.offset)
+    }
+
+    /// E8: the clock must not lie below the time at which TS.Recent was last set.
+    pub(crate) fn check_clock(&self, clock: u64) -> Result<(), Refusal> {
+        if clock < self.ts_recent_clock {
+            return Err(Refusal::ClockWentBack);
+        }
+        Ok(())
+    }
+
+    /// The new part of a segment to be taken, or the verdict on any other. The order counts.
+    fn judge(&self, clock: u64, segment: &Segment) -> Result<Part, Verdict> {
+        self.check_timestamp(clock, segment)?;
+        self.check_window(segment)?;
+        self.check_flags(segment)?;
+        if self.snd_nxt.before(segment.ack) {
+            return Err(Verdict::DropWithAck(Reason::AckOfUnsent));
+        }
+        let part = self.new_part(segment);
+        if !self.has_room(&part) {
+            return Err(Verdict::DropWithAck(Reason::NoRoom));
+        }
+        Ok(part)
+    }
+
+    fn check_timestamp(&self, clock: u64, segment: &Segment) -> Result<(), Verdict> {
+        if !self.timestamps || segment.flags.rst() {
+            return Ok(());
+        }
+        match segment.options.timestamps {
+            None => Err(Verdict::DropSilently(Reason::TimestampMissing)),
+            Some(stamps) if !self.is_fresh(clock, stamps.value) => {
+                Err(Verdict::DropWithAck(Reason::TimestampOld))
+            }
+            Some(_) => Ok(()),
+        }
+    }
+
+    fn check_window(&self, segment: &Segment) -> Result<(), Verdict> {
+        if self.is_acceptable(segment) {
+            Ok(())
+        } else if segment.flags.rst() {
+            Err(Verdict::DropSilently(Reason::UnacceptableReset))
+        } else {
+            Err(Verdict::DropWithAck(Reason::Unacceptable))
+        }
+    }
+
+    fn check_flags(&self, segment: &Segment) -> Result<(), Verdict> {
+        let flags = segment.flags;
+        if flags.rst() && segment.seq == self.rcv_nxt {
+            Err(Verdict::Reset)
+        } else if flags.rst() {
+            Err(Verdict::DropWithAck(Reason::ResetNotAtNext))
+        } else if flags.syn() {
+            Err(Verdict::DropWithAck(Reason::Syn))
+        } else if !flags.ack() {
+            Err(Verdict::DropSilently(Reason::NoAck))
+        } else {
+            Ok(())
+        }
+    }
+
+    /// Whether a TSval is not before TS.Recent, or TS.Recent is outdated.
+    fn is_fresh(&self, clock: u64, value: Stamp) -> bool {
+        !value.before(self.ts_recent) || clock - self.ts_recent_clock > OUTDATED_AFTER
+    }
+
+    fn is_acceptable(&self, segment: &Segment) -> bool {
+        let first = self.rcv_nxt.offset_of(segment.seq);
+        match (segment.length(), self.rcv_wnd) {
+            (0, 0) => first == 0,
+            (0, window) => first < window,
+            (_, 0) => false,
+            (length, window) => {
+                first < window || self.rcv_nxt.offset_of(last_number(segment.seq, length)) < window
+            }
+        }
+    }
+
+    /// The part of an acceptable segment between RCV.NXT and the right window edge.
+    fn new_part(&self, segment: &Segment) -> Part {
+        let length = segment.length();
+        if length == 0 {
+            return Part::default();
+        }
+        let first = self.rcv_nxt.offset_of(segment.seq);
+        let last = self.rcv_nxt.offset_of(last_number(segment.seq, length));
+        let start = if first < self.rcv_wnd { first } else { 0 };
+        // The last number of an acceptable segment is outside only past the right edge.
+        let whole = last < self.rcv_wnd;
+        let end = if whole { last + 1 } else { self.rcv_wnd };
+        Part {
+            offset: start,
+            length: end - start,
+            fin: segment.flags.fin() && whole,
+        }
+    }
+
+    fn has_room(&self, part: &Part) -> bool {
+        part.offset == 0 || self.held.has_room(self.rcv_nxt, part.offset, part.end())
+    }
+
+    fn take(&mut self, clock: u64, segment: &Segment, part: Part) -> Taken {
+        let stamps = segment.options.timestamps.filter(|_| self.timestamps);
+        if let Some(stamps) = stamps {
+            self.update_ts_recent(clock, segment.seq, stamps);
+        }
+        self.receive(&part);
+        if self.process_ack(segment) {
+            if let Some(stamps) = stamps {
+                self.sample_round_trip(clock, stamps);
+            }
+        }
+        Taken {
+            part,
+            sack: self.reported_blocks(&segment.options.sack),
+        }
+    }
+
+    fn update_ts_recent(&mut self, clock: u64, seq: Seq, stamps: Timestamps) {
+        if self.is_fresh(clock, stamps.value) && seq.at_or_before(self.last_ack_sent) {
+            self.ts_recent = stamps.value;
+            self.ts_recent_clock = clock;
+        }
+    }
+
+    fn receive(&mut self, part: &Part) {
+        if part.length == 0 {
+            return;
+        }
+        if part.offset == 0 {
+            let advance = self.held.advance(self.rcv_nxt, part.end());
+            self.rcv_nxt = self.rcv_nxt.plus(advance);
+            // The right window edge stays, so the window shrinks.
+            self.rcv_wnd -= advance;
+        } else {
+            self.held.hold(self.rcv_nxt, part.offset, part.end());
+        }
+    }
+
+    /// Moves SND.UNA and the send window; tells whether the ACK is new.
+    fn process_ack(&mut self, segment: &Segment) -> bool {
+        let acked = self.snd_una.offset_of(segment.ack);
+        let is_new = acked > 0 && acked <= self.snd_una.offset_of(self.snd_nxt);
+        if (is_new || acked == 0) && self.updates_window(segment) {
+            self.snd_wnd = u32::from(segment.window) << self.snd_shift;
+            self.snd_wl1 = segment.seq;
+            self.snd_wl2 = segment.ack;
+        }
+        if is_new {
+            self.snd_una = segment.ack;
+        }
+        is_new
+    }
+
+    fn updates_window(&self, segment: &Segment) -> bool {
+        self.snd_wl1.before(segment.seq)
+            || (self.snd_wl1 == segment.seq && self.snd_wl2.at_or_before(segment.ack))
+    }
+
+    fn sample_round_trip(&mut self, clock: u64, stamps: Timestamps) {
+        let round_trip = self.stamp(clock).since(stamps.echo);
+        // A sample that the timer refuses is left out, and the segment is taken all the same.
+        let _ = self.timer.sample(round_trip);
+    }
+
+    /// The peer's SACK blocks that lie above SND.UNA and not past SND.NXT.
+    fn reported_blocks(&self, blocks: &SackBlocks) -> SackBlocks {
+        let mut kept = SackBlocks::default();
+        if self.sack {
+            for &block in blocks.as_slice() {
+                if self.is_outstanding(block) {
+                    kept.push(block);
+                }
+            }
+        }
+        kept
+    }
+
+    fn is_outstanding(&self, block: Range) -> bool {
+        let left = self.snd_una.offset_of(block.left);
+        let right = self.snd_una.offset_of(block.right);
+        0 < left && left < right && right <= self.snd_una.offset_of(self.snd_nxt)
+    }
+}
+
+/// Scaling is in force only if both sides offered it; a peer's shift above 14 counts as 14.
+fn agreed_shifts(own: Option<u8>, peer: Option<u8>) -> (u8, u8) {
+    match (own, peer) {
+        (Some(own), Some(peer)) => (own, peer.min(MAX_SHIFT)),
+        _ => (0, 0),
+    }
+}
+
+fn last_number(seq: Seq, length: u32) -> Seq {
+    seq.plus(length - 1)
+}
+
+#[cfg(test)]
+mod tests;

@@ -1,0 +1,158 @@
+//! Counts how often each call of a script gave each number.
+
+use std::collections::BTreeMap;
+use std::fmt::{self, Display};
+
+use crate::play::{Player, BAD_LINE};
+use crate::script::{Call, Calls};
+
+/// The calls that give numbers, and the numbers that each can give.
+const POSSIBLE: [(&str, &[u8]); 8] = [
+    ("read", &[0, 1, 2, 3, 4, 5, 6]),
+    ("open", &[0, 1, 2, 3, 4, 5, 6, 9, 10, 11]),
+    (
+        "arrive",
+        &[
+            0, 1, 2, 3, 4, 5, 6, 8, 21, 22, 23, 24, 25, 26, 27, 28, 29, 30,
+        ],
+    ),
+    ("sent", &[0, 12]),
+    ("window", &[0, 13]),
+    ("acknowledge", &[0, 7, 8]),
+    ("sample", &[0, 14]),
+    ("refusal", &[0, 1, 2, 3, 4, 5, 6]),
+];
+
+/// What a call answered, as far as it is counted.
+#[derive(Clone, Copy, Debug, PartialEq, Eq, PartialOrd, Ord)]
+enum Outcome {
+    /// The call gives no number.
+    Plain,
+    Closed,
+    Number(u8),
+}
+
+impl Display for Outcome {
+    fn fmt(&self, f: &mut fmt::Formatter) -> fmt::Result {
+        match self {
+            Outcome::Plain => f.write_str("-"),
+            Outcome::Closed => f.write_str("closed"),
+            Outcome::Number(number) => number.fmt(f),
+        }
+    }
+}
+
+/// How often each call gave each outcome.
+#[derive(Default)]
+pub struct Counts {
+    counts: BTreeMap<(&'static str, Outcome), u64>,
+}
+
+impl Counts {
+    /// Plays a script and counts its answers.
+    pub fn of(script: &[u8]) -> Counts {
+        let mut counts = Counts::default();
+        let mut player = Player::default();
+        let mut lines = String::new();
+        for call in Calls::new(script) {
+            match call {
+                Ok(call) => {
+                    lines.clear();
+                    player.play(&call, &mut lines);
+                    counts.note(name(&call), outcome(&call, &lines));
+                }
+                Err(_) => counts.note(BAD_LINE.trim_end(), Outcome::Plain),
+            }
+        }
+        counts
+    }
+
+    fn note(&mut self, name: &'static str, outcome: Outcome) {
+        *self.counts.entry((name, outcome)).or_insert(0) += 1;
+    }
+
+    /// The calls with the numbers that they can give but did not.
+    pub fn never_reached(&self) -> Vec<(&'static str, u8)> {
+        let pairs = POSSIBLE
+            .iter()
+            .flat_map(|&(name, numbers)| numbers.iter().map(move |&number| (name, number)));
+        pairs
+            .filter(|&(name, number)| !self.counts.contains_key(&(name, Outcome::Number(number))))
+            .collect()
+    }
+}
+
+impl Display for Counts {
+    fn fmt(&self, f: &mut fmt::Formatter) -> fmt::Result {
+        writeln!(f, "{:<16} {:>6} {:>9}", "call", "number", "count")?;
+        for (&(name, outcome), count) in &self.counts {
+            writeln!(f, "{:<16} {:>6} {:>9}", name, outcome.to_string(), count)?;
+        }
+        let missing = self.never_reached();
+        if missing.is_empty() {
+            return writeln!(f, "never reached: none");
+        }
+        missing
+            .iter()
+            .try_for_each(|(name, number)| writeln!(f, "never reached: {} {}", name, number))
+    }
+}
+
+/// The name of a call in the table; the two distances are told apart.
+fn name(call: &Call) -> &'static str {
+    match call {
+        Call::Read { .. } => "read",
+        Call::Find { .. } => "find",
+        Call::Distance { .. } => "distance",
+        Call::Open { .. } => "open",
+        Call::Arrive { .. } => "arrive",
+        Call::Sent { .. } => "sent",
+        Call::Window { .. } => "window",
+        Call::Acknowledge { .. } => "acknowledge",
+        Call::Expire => "expire",
+        Call::Timer => "timer",
+        Call::Sample { .. } => "sample",
+        Call::Expiry => "expiry",
+        Call::Refusal { .. } => "refusal",
+        Call::DistanceFromC { .. } => "distance from C",
+        Call::Milliseconds { .. } => "milliseconds",
+    }
+}
+
+fn outcome(call: &Call, lines: &str) -> Outcome {
+    if lines == "closed\n" {
+        return Outcome::Closed;
+    }
+    let gives_number = POSSIBLE.iter().any(|&(numbered, _)| numbered == name(call));
+    let second_word = lines.split_ascii_whitespace().nth(1);
+    match second_word.and_then(|word| word.parse().ok()) {
+        Some(number) if gives_number => Outcome::Number(number),
+        _ => Outcome::Plain,
+    }
+}
+
+#[cfg(test)]
+mod tests {
+    use super::*;
+
+    #[test]
+    fn numbers_are_counted_by_call() {
+        let mut script = Vec::new();
+        Call::Sent { count: 1 }.encode(&mut script);
+        Call::Sample { round_trip: 7 }.encode(&mut script);
+        Call::Sample { round_trip: 7 }.encode(&mut script);
+        Call::Distance { a: 0, b: 14 }.encode(&mut script);
+        script.push(0);
+        let table = Counts::of(&script).to_string();
+        let rows: Vec<Vec<&str>> = table
+            .lines()
+            .map(|line| line.split_whitespace().collect())
+            .collect();
+        assert_eq!(rows[1], ["bad", "-", "1"]);
+        assert_eq!(rows[2], ["distance", "-", "1"]);
+        assert_eq!(rows[3], ["sample", "0", "2"]);
+        assert_eq!(rows[4], ["sent", "closed", "1"]);
+        assert!(table.contains("never reached: sample 14\n"));
+        assert!(!table.contains("never reached: sample 0\n"));
+    }
+}

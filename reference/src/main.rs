@@ -1,0 +1,136 @@
+//! The commands of the reference program.
+
+use std::env;
+use std::fmt::Display;
+use std::io::{self, Read, Write};
+use std::path::Path;
+use std::process::ExitCode;
+use std::time::{Duration, Instant};
+
+use reference::compare::compare;
+use reference::count::Counts;
+use reference::play::{Player, BAD_LINE};
+use reference::script::Calls;
+use reference::{stored, timer_run};
+
+const USAGE: &str = "usage: reference play | script | count | timer CALLS SEED | \
+                     compare COUNT SEED [PROGRAM]";
+const DEFAULT_PROGRAM: &str = "target/bin/replay";
+
+const DIFFERENT: u8 = 1;
+const CANNOT_RUN: u8 = 2;
+
+/// Output is handed on in pieces of about this many octets.
+const OUTPUT_PIECE: usize = 1 << 16;
+
+fn main() -> ExitCode {
+    let arguments: Vec<String> = env::args().skip(1).collect();
+    let words: Vec<&str> = arguments.iter().map(String::as_str).collect();
+    match run(&words) {
+        Ok(status) => status,
+        Err(error) => {
+            eprintln!("reference: {}", error);
+            ExitCode::from(CANNOT_RUN)
+        }
+    }
+}
+
+fn run(words: &[&str]) -> io::Result<ExitCode> {
+    match *words {
+        ["play"] => play_input(),
+        ["script"] => write_output(&stored::script()),
+        ["count"] => print(&Counts::of(&read_input()?)),
+        ["timer", calls, seed] => match (calls.parse(), seed.parse()) {
+            (Ok(calls), Ok(seed)) => run_timer(calls, seed),
+            _ => usage(),
+        },
+        ["compare", count, seed] => run_compare(count, seed, DEFAULT_PROGRAM),
+        ["compare", count, seed, program] => run_compare(count, seed, program),
+        _ => usage(),
+    }
+}
+
+fn usage() -> io::Result<ExitCode> {
+    eprintln!("{}", USAGE);
+    Ok(ExitCode::from(CANNOT_RUN))
+}
+
+fn read_input() -> io::Result<Vec<u8>> {
+    let mut input = Vec::new();
+    io::stdin().lock().read_to_end(&mut input)?;
+    Ok(input)
+}
+
+fn write_output(octets: &[u8]) -> io::Result<ExitCode> {
+    let mut output = io::stdout().lock();
+    output.write_all(octets)?;
+    output.flush()?;
+    Ok(ExitCode::SUCCESS)
+}
+
+fn print(text: &impl Display) -> io::Result<ExitCode> {
+    write_output(text.to_string().as_bytes())
+}
+
+fn play_input() -> io::Result<ExitCode> {
+    let script = read_input()?;
+    let mut output = io::stdout().lock();
+    let mut player = Player::default();
+    let mut lines = String::new();
+    for call in Calls::new(&script) {
+        match call {
+            Ok(call) => player.play(&call, &mut lines),
+            Err(_) => lines.push_str(BAD_LINE),
+        }
+        if lines.len() >= OUTPUT_PIECE {
+            output.write_all(lines.as_bytes())?;
+            lines.clear();
+        }
+    }
+    output.write_all(lines.as_bytes())?;
+    output.flush()?;
+    Ok(ExitCode::SUCCESS)
+}
+
+fn run_timer(calls: u64, seed: u64) -> io::Result<ExitCode> {
+    match timer_run::run(calls, seed) {
+        Ok(summary) => print(&summary),
+        Err(failure) => {
+            print(&failure)?;
+            Ok(ExitCode::from(DIFFERENT))
+        }
+    }
+}
+
+fn run_compare(count: &str, seed: &str, program: &str) -> io::Result<ExitCode> {
+    let (count, seed) = match (count.parse(), seed.parse()) {
+        (Ok(count), Ok(seed)) => (count, seed),
+        _ => return usage(),
+    };
+    let difference = compare(count, seed, Path::new(program), progress_of(count));
+    match difference.map_err(|error| naming(program, error))? {
+        None => print(&format!(
+            "compared {} calls, seed {}: no difference\n",
+            count, seed
+        )),
+        Some(difference) => {
+            print(&format!("{}\n", difference))?;
+            Ok(ExitCode::from(DIFFERENT))
+        }
+    }
+}
+
+fn naming(program: &str, error: io::Error) -> io::Error {
+    io::Error::new(error.kind(), format!("{}: {}", program, error))
+}
+
+/// Tells standard error how many calls are done, at most once a second.
+fn progress_of(count: u64) -> impl FnMut(u64) {
+    let mut told = Instant::now();
+    move |done| {
+        if told.elapsed() >= Duration::from_secs(1) {
+            told = Instant::now();
+            eprintln!("compared {} of {} calls", done, count);
+        }
+    }
+}

@@ -1,0 +1,354 @@
+//! Plays the calls of a script on one connection record and one free-standing timer, a line for each.
+
+use std::fmt::{self, Display, Write};
+
+use crate::connection::Connection;
+use crate::ranges::Range;
+use crate::refusal::Refusal;
+use crate::script::{Call, Calls};
+use crate::segment::{find_option, refusal_number, Segment};
+use crate::serial::distance;
+use crate::timer::{milliseconds, Timer};
+use crate::verdict::{Taken, Verdict};
+
+/// The line for a call that cannot be decoded.
+pub const BAD_LINE: &str = "bad\n";
+
+const CLOSED_LINE: &str = "closed\n";
+
+/// The record and the free-standing timer that the calls of a script move.
+#[derive(Default)]
+pub struct Player {
+    connection: Option<Connection>,
+    timer: Timer,
+}
+
+/// The lines of a whole script.
+pub fn play(script: &[u8]) -> String {
+    let mut player = Player::default();
+    let mut out = String::new();
+    for call in Calls::new(script) {
+        match call {
+            Ok(call) => player.play(&call, &mut out),
+            Err(_) => out.push_str(BAD_LINE),
+        }
+    }
+    out
+}
+
+impl Player {
+    pub fn connection(&self) -> Option<&Connection> {
+        self.connection.as_ref()
+    }
+
+    /// Makes one call and appends its lines.
+    pub fn play(&mut self, call: &Call, out: &mut String) {
+        self.write_lines(call, out)
+            .expect("a string takes any text");
+    }
+
+    fn write_lines(&mut self, call: &Call, out: &mut String) -> fmt::Result {
+        match *call {
+            Call::Read { segment } => write_read(segment, out),
+            Call::Find { kinds, segment } => {
+                writeln!(out, "find {}", Hex(find_option(segment, kinds)))
+            }
+            Call::Distance { a, b } | Call::DistanceFromC { a, b } => {
+                writeln!(out, "distance {}", distance(a, b))
+            }
+            Call::Open { opening, segment } => {
+                let opened = Connection::open(&opening, segment);
+                writeln!(out, "open {}", number(&opened))?;
+                self.connection = opened.ok().or(self.connection);
+                self.write_record(out)
+            }
+            Call::Timer => {
+                self.timer = Timer::default();
+                writeln!(out, "timer")?;
+                self.write_timer(out)
+            }
+            Call::Sample { round_trip } => {
+                writeln!(out, "sample {}", number(&self.timer.sample(round_trip)))?;
+                self.write_timer(out)
+            }
+            Call::Expiry => {
+                self.timer.expire();
+                writeln!(out, "expiry")?;
+                self.write_timer(out)
+            }
+            Call::Refusal { segment } => writeln!(out, "refusal {}", refusal_number(segment)),
+            Call::Milliseconds {
+                smoothed,
+                variation,
+            } => writeln!(out, "milliseconds {}", milliseconds(smoothed, variation)),
+            Call::Arrive { clock, segment } => self.on_record(out, |connection, out| {
+                write_arrive(connection.arrive(clock, segment), out)
+            }),
+            Call::Sent { count } => self.on_record(out, |connection, out| {
+                writeln!(out, "sent {}", number(&connection.note_sent(count)))
+            }),
+            Call::Window { window } => self.on_record(out, |connection, out| {
+                writeln!(out, "window {}", number(&connection.open_window(window)))
+            }),
+            Call::Acknowledge {
+                source,
+                destination,
+                clock,
+                buffer,
+            } => self.on_record(out, |connection, out| {
+                let mut buffer = buffer.to_vec();
+                let written = connection.acknowledge(source, destination, clock, &mut buffer);
+                let length = written.unwrap_or(0);
+                writeln!(
+                    out,
+                    "acknowledge {} {} {}",
+                    number(&written),
+                    length,
+                    Hex(&buffer)
+                )
+            }),
+            Call::Expire => self.on_record(out, |connection, out| {
+                connection.expire();
+                writeln!(out, "expire")
+            }),
+        }
+    }
+
+    /// Makes a call that needs an open record, then writes the record.
+    fn on_record(
+        &mut self,
+        out: &mut String,
+        call: impl FnOnce(&mut Connection, &mut String) -> fmt::Result,
+    ) -> fmt::Result {
+        match self.connection.as_mut() {
+            Some(connection) => {
+                call(connection, out)?;
+                self.write_record(out)
+            }
+            None => out.write_str(CLOSED_LINE),
+        }
+    }
+
+    fn write_record(&self, out: &mut String) -> fmt::Result {
+        match &self.connection {
+            Some(connection) => writeln!(out, "record {}", Record(connection)),
+            None => writeln!(out, "record -"),
+        }
+    }
+
+    fn write_timer(&self, out: &mut String) -> fmt::Result {
+        writeln!(out, "timer-state {}", TimerFields(&self.timer))
+    }
+}
+
+fn number<T>(result: &Result<T, Refusal>) -> u8 {
+    match result {
+        Ok(_) => 0,
+        Err(refusal) => refusal.number(),
+    }
+}
+
+fn write_read(octets: &[u8], out: &mut String) -> fmt::Result {
+    match Segment::read(octets) {
+        Ok(segment) => writeln!(out, "read 0 {}", SegmentFields(&segment)),
+        Err(refusal) => writeln!(out, "read {}", refusal.number()),
+    }
+}
+
+fn write_arrive(arrived: Result<Verdict, Refusal>, out: &mut String) -> fmt::Result {
+    let (number, taken) = match arrived {
+        Ok(Verdict::Take(taken)) => (0, taken),
+        Ok(verdict) => (verdict.number(), Taken::default()),
+        Err(refusal) => (refusal.number(), Taken::default()),
+    };
+    writeln!(
+        out,
+        "arrive {} {} {} {} {}",
+        number,
+        taken.part.offset,
+        taken.part.length,
+        u8::from(taken.part.fin),
+        Ranges(taken.sack.as_slice()),
+    )
+}
+
+/// Octets as hexadecimal digits run together, `-` where there are none.
+pub struct Hex<'a>(pub &'a [u8]);
+
+impl Display for Hex<'_> {
+    fn fmt(&self, f: &mut fmt::Formatter) -> fmt::Result {
+        if self.0.is_empty() {
+            return f.write_str("-");
+        }
+        self.0
+            .iter()
+            .try_for_each(|octet| write!(f, "{:02x}", octet))
+    }
+}
+
+/// A number, or `-` where it is absent.
+struct OrDash<T>(Option<T>);
+
+impl<T: Display> Display for OrDash<T> {
+    fn fmt(&self, f: &mut fmt::Formatter) -> fmt::Result {
+        match &self.0 {
+            Some(value) => value.fmt(f),
+            None => f.write_str("-"),
+        }
+    }
+}
+
+/// The number of ranges, then left and right of each.
+struct Ranges<'a>(&'a [Range]);
+
+impl Display for Ranges<'_> {
+    fn fmt(&self, f: &mut fmt::Formatter) -> fmt::Result {
+        write!(f, "{}", self.0.len())?;
+        self.0
+            .iter()
+            .try_for_each(|range| write!(f, " {} {}", range.left.0, range.right.0))
+    }
+}
+
+/// The fields of a segment that was read.
+struct SegmentFields<'a>(&'a Segment<'a>);
+
+impl Display for SegmentFields<'_> {
+    fn fmt(&self, f: &mut fmt::Formatter) -> fmt::Result {
+        let segment = self.0;
+        let options = &segment.options;
+        write!(
+            f,
+            "{} {} {} {} {} {} {} {} {} {} {} {} {} {} {}",
+            segment.source,
+            segment.destination,
+            segment.seq.0,
+            segment.ack.0,
+            segment.flags.0,
+            segment.window,
+            segment.urgent,
+            OrDash(options.mss),
+            OrDash(options.scale),
+            u8::from(options.sack_permitted),
+            OrDash(options.timestamps.map(|stamps| stamps.value.0)),
+            OrDash(options.timestamps.map(|stamps| stamps.echo.0)),
+            Ranges(options.sack.as_slice()),
+            segment.payload_offset,
+            segment.payload.len(),
+        )
+    }
+}
+
+/// The fields of a record line.
+struct Record<'a>(&'a Connection);
+
+impl Display for Record<'_> {
+    fn fmt(&self, f: &mut fmt::Formatter) -> fmt::Result {
+        let connection = self.0;
+        write!(
+            f,
+            "{} {} {} {} {} {} {} {} {} {} {} {} {} {} {} {} {} {}",
+            connection.rcv_nxt.0,
+            connection.rcv_wnd,
+            connection.last_ack_sent.0,
+            connection.rcv_shift,
+            connection.snd_shift,
+            connection.snd_una.0,
+            connection.snd_nxt.0,
+            connection.snd_wnd,
+            connection.snd_wl1.0,
+            connection.snd_wl2.0,
+            u8::from(connection.timestamps),
+            connection.ts_recent.0,
+            connection.ts_recent_clock,
+            connection.offset,
+            u8::from(connection.sack),
+            connection.mss,
+            Ranges(connection.held.as_slice()),
+            TimerFields(&connection.timer),
+        )
+    }
+}
+
+/// The four fields of a timer.
+struct TimerFields<'a>(&'a Timer);
+
+impl Display for TimerFields<'_> {
+    fn fmt(&self, f: &mut fmt::Formatter) -> fmt::Result {
+        let timer = self.0;
+        write!(
+            f,
+            "{} {} {} {}",
+            u8::from(timer.sampled),
+            timer.smoothed,
+            timer.variation,
+            timer.rto,
+        )
+    }
+}
+
+#[cfg(test)]
+mod tests {
+    use super::*;
+
+    fn play_calls(calls: &[Call]) -> String {
+        let mut script = Vec::new();
+        for call in calls {
+            call.encode(&mut script);
+        }
+        play(&script)
+    }
+
+    #[test]
+    fn timer_lines() {
+        let calls = [
+            Call::Timer,
+            Call::Sample { round_trip: 1_000 },
+            Call::Sample {
+                round_trip: 600_001,
+            },
+            Call::Expiry,
+        ];
+        let expected = "timer\ntimer-state 0 0 0 1000\n\
+                        sample 0\ntimer-state 1 256000 128000 3001\n\
+                        sample 14\ntimer-state 1 256000 128000 3001\n\
+                        expiry\ntimer-state 1 256000 128000 6002\n";
+        assert_eq!(play_calls(&calls), expected);
+    }
+
+    #[test]
+    fn calls_without_a_record() {
+        let calls = [
+            Call::Sent { count: 0 },
+            Call::Expire,
+            Call::Distance { a: 0, b: 1 << 31 },
+            Call::DistanceFromC { a: u32::MAX, b: 0 },
+            Call::Refusal { segment: &[0; 19] },
+            Call::Find {
+                kinds: &[8],
+                segment: &[],
+            },
+        ];
+        let expected = "closed\nclosed\ndistance -2147483648\ndistance 1\nrefusal 1\nfind -\n";
+        assert_eq!(play_calls(&calls), expected);
+    }
+
+    #[test]
+    fn a_readable_segment() {
+        let mut segment = [0; 21];
+        segment[12] = 0x5f;
+        segment[13] = 0x10;
+        let line = play_calls(&[Call::Read { segment: &segment }]);
+        assert_eq!(line, "read 0 0 0 0 0 16 0 0 - - 0 - - 0 20 1\n");
+    }
+
+    #[test]
+    fn bad_ends_the_lines() {
+        assert_eq!(
+            play(&[9, 0, 0, 0, 0, 99, 0, 0, 0, 0, 9, 0, 0, 0, 0]),
+            "closed\nbad\n"
+        );
+        assert_eq!(play(&[9, 0]), "bad\n");
+        assert_eq!(play(&[]), "");
+    }
+}

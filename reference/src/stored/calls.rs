@@ -1,0 +1,168 @@
+//! The list of calls that the stored script is put together from, and the openings that most cases share.
+
+use crate::builder::SegmentBuilder;
+use crate::connection::Opening;
+use crate::script::Call;
+use crate::segment::{ACK, SYN};
+use crate::serial::{Seq, Stamp};
+
+/// The clock at which the shared openings open.
+pub const CLOCK: u64 = 10_000;
+pub const ISS: Seq = Seq(1_000);
+/// SND.UNA and SND.NXT after a shared opening.
+pub const UNA: Seq = Seq(1_001);
+/// RCV.NXT after a shared opening.
+pub const NEXT: Seq = Seq(5_000);
+/// TS.Recent after a shared opening with timestamps.
+pub const RECENT: Stamp = Stamp(100);
+pub const HALF: u32 = 1 << 31;
+
+const FILLER: u8 = 0xee;
+
+/// Encoded calls, one behind the other.
+#[derive(Default)]
+pub struct CallList {
+    script: Vec<u8>,
+}
+
+impl CallList {
+    pub fn into_script(self) -> Vec<u8> {
+        self.script
+    }
+
+    pub fn add(&mut self, call: &Call) {
+        call.encode(&mut self.script);
+    }
+
+    /// Appends a call that is encoded already.
+    pub fn add_encoded(&mut self, call: &[u8]) {
+        self.script.extend_from_slice(call);
+    }
+
+    pub fn read(&mut self, segment: &[u8]) {
+        self.add(&Call::Read { segment });
+    }
+
+    pub fn open(&mut self, opening: &Opening, syn: &SegmentBuilder) {
+        self.add(&Call::Open {
+            opening: *opening,
+            segment: &syn.build(),
+        });
+    }
+
+    /// Opens the shared record with nothing in force.
+    pub fn open_plain(&mut self) {
+        self.open(&opening(), &syn());
+    }
+
+    /// Opens the shared record with a receive window of its own.
+    pub fn open_with_window(&mut self, window: u32) {
+        self.open(
+            &Opening {
+                window,
+                ..opening()
+            },
+            &syn(),
+        );
+    }
+
+    /// Opens the shared record with SACK in force.
+    pub fn open_with_sack(&mut self) {
+        let opening = Opening {
+            sack: true,
+            ..opening()
+        };
+        self.open(&opening, &syn().sack_permitted());
+    }
+
+    /// Opens the shared record with timestamps and SACK in force.
+    pub fn open_with_timestamps(&mut self) {
+        let opening = Opening {
+            timestamps: true,
+            sack: true,
+            ..opening()
+        };
+        let syn = syn().sack_permitted().timestamps(RECENT, Stamp(0));
+        self.open(&opening, &syn);
+    }
+
+    /// Opens the shared record with scaling in force, both shifts the same.
+    pub fn open_with_shift(&mut self, shift: u8) {
+        let opening = Opening {
+            shift: Some(shift),
+            ..opening()
+        };
+        self.open(&opening, &syn().scale(shift));
+    }
+
+    /// A segment arrives at the clock of the opening.
+    pub fn arrive(&mut self, segment: &SegmentBuilder) {
+        self.arrive_at(CLOCK, segment);
+    }
+
+    pub fn arrive_at(&mut self, clock: u64, segment: &SegmentBuilder) {
+        self.add(&Call::Arrive {
+            clock,
+            segment: &segment.build(),
+        });
+    }
+
+    /// Writes an acknowledgment to a buffer of so many octets, at the clock of the opening.
+    pub fn acknowledge(&mut self, length: usize) {
+        self.acknowledge_at(CLOCK, length);
+    }
+
+    pub fn acknowledge_at(&mut self, clock: u64, length: usize) {
+        self.add(&Call::Acknowledge {
+            source: 443,
+            destination: 12_345,
+            clock,
+            buffer: &vec![FILLER; length],
+        });
+    }
+
+    pub fn sent(&mut self, count: u32) {
+        self.add(&Call::Sent { count });
+    }
+
+    pub fn window(&mut self, window: u32) {
+        self.add(&Call::Window { window });
+    }
+
+    pub fn sample(&mut self, round_trip: u32) {
+        self.add(&Call::Sample { round_trip });
+    }
+
+    pub fn distance(&mut self, a: u32, b: u32) {
+        self.add(&Call::Distance { a, b });
+        self.add(&Call::DistanceFromC { a, b });
+    }
+}
+
+/// Our side of a shared opening: nothing offered, the largest first window.
+pub fn opening() -> Opening {
+    Opening {
+        iss: ISS,
+        shift: None,
+        timestamps: false,
+        sack: false,
+        window: 65_535,
+        offset: 0,
+        clock: CLOCK,
+    }
+}
+
+/// The peer's SYN of a shared opening; it acknowledges ours and has no options.
+pub fn syn() -> SegmentBuilder {
+    SegmentBuilder::new(NEXT.minus(1), UNA, SYN | ACK)
+}
+
+/// A segment with ACK = SND.UNA.
+pub fn data(seq: Seq, length: usize) -> SegmentBuilder {
+    SegmentBuilder::data(seq, UNA, length)
+}
+
+/// A segment with ACK = SND.UNA and TSval = TS.Recent.
+pub fn stamped(seq: Seq, length: usize) -> SegmentBuilder {
+    data(seq, length).timestamps(RECENT, Stamp(0))
+}

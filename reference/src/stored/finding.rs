@@ -1,0 +1,61 @@
+//! Finding an option by a list of kinds.
+
+use crate::script::Call;
+use crate::serial::Stamp;
+
+use super::calls::{data, CallList, NEXT};
+
+pub fn add(calls: &mut CallList) {
+    let segment = data(NEXT, 4)
+        .options(&[1, 254, 5, 7, 8, 9, 1, 253, 2])
+        .mss(536)
+        .timestamps(Stamp(1), Stamp(2))
+        .options(&[254, 3, 6])
+        .build();
+    let lists: [&[u8]; 12] = [
+        &[],
+        &[0],
+        &[1],
+        &[0, 1],
+        &[254],
+        &[253],
+        &[8, 253],
+        &[253, 8],
+        &[0, 1, 8],
+        &[8, 2, 8],
+        &[3, 4, 5],
+        &[255, 0, 2],
+    ];
+    for kinds in lists {
+        find(calls, kinds, &segment);
+    }
+    find(calls, &every_kind(), &segment);
+    find(calls, &[8], &data(NEXT, 12).build());
+    unreadable(calls);
+    ended(calls);
+}
+
+fn find(calls: &mut CallList, kinds: &[u8], segment: &[u8]) {
+    calls.add(&Call::Find { kinds, segment });
+}
+
+fn every_kind() -> Vec<u8> {
+    (1..=255).collect()
+}
+
+/// A fault behind the match, and segments that are no segments.
+fn unreadable(calls: &mut CallList) {
+    let fault_behind = data(NEXT, 0).mss(536).options(&[254, 1, 0, 0]);
+    find(calls, &[2], &fault_behind.build());
+    let repeated_behind = data(NEXT, 0).mss(536).mss(536);
+    find(calls, &[2], &repeated_behind.build());
+    find(calls, &[2], &data(NEXT, 0).mss(536).build()[..23]);
+    find(calls, &[2], &[]);
+}
+
+/// Options behind kind 0 are not there.
+fn ended(calls: &mut CallList) {
+    let ended = data(NEXT, 0).options(&[254, 2, 0, 0]).mss(536);
+    find(calls, &[2], &ended.build());
+    find(calls, &[2, 254], &ended.build());
+}

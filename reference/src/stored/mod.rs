@@ -1,0 +1,90 @@
+//! The stored script: the examples of RFC 2018, the marked cases, both sides of every limit, random calls.
+
+mod acknowledging;
+mod calls;
+mod finding;
+mod marked;
+mod opening;
+mod ranges;
+mod reading;
+mod rfc2018;
+mod sending;
+mod taking;
+mod timers;
+mod unopened;
+mod verdicts;
+
+use crate::generate::Generator;
+use crate::random::Random;
+
+use self::calls::CallList;
+
+const RANDOM_CALLS: usize = 1_200;
+const RANDOM_SEED: u64 = 7_323;
+
+/// A call of two numbers that is one octet short.
+const BAD_CALL: [u8; 12] = [3, 0, 0, 0, 7, 0, 0, 0, 0, 0, 0, 0];
+
+/// The stored script; it is always the same.
+pub fn script() -> Vec<u8> {
+    let mut calls = CallList::default();
+    // Calls on no record can only come before the first opening.
+    unopened::add(&mut calls);
+    rfc2018::add(&mut calls);
+    marked::add(&mut calls);
+    reading::add(&mut calls);
+    finding::add(&mut calls);
+    opening::add(&mut calls);
+    verdicts::add(&mut calls);
+    taking::add(&mut calls);
+    ranges::add(&mut calls);
+    acknowledging::add(&mut calls);
+    sending::add(&mut calls);
+    timers::add(&mut calls);
+    let mut script = calls.into_script();
+    script.extend(random_calls());
+    script.extend(BAD_CALL);
+    script
+}
+
+fn random_calls() -> Vec<u8> {
+    let mut generator = Generator::new(Random::new(RANDOM_SEED), false);
+    for _ in 0..RANDOM_CALLS {
+        generator.add_call();
+    }
+    generator.into_script()
+}
+
+#[cfg(test)]
+mod tests {
+    use super::*;
+    use crate::count::Counts;
+    use crate::play::play;
+
+    #[test]
+    fn every_number_is_reached_by_every_call_that_can_give_it() {
+        assert!(Counts::of(&script()).never_reached().is_empty());
+    }
+
+    #[test]
+    fn the_last_line_alone_is_bad() {
+        let lines = play(&script());
+        assert!(lines.ends_with("\nbad\n"));
+        assert_eq!(lines.lines().filter(|&line| line == "bad").count(), 1);
+    }
+
+    #[test]
+    fn every_call_on_no_record_is_closed() {
+        let lines = play(&script());
+        let closed = lines.lines().filter(|&line| line == "closed").count();
+        assert_eq!(closed, 5);
+        assert!(lines.contains("open 9\nrecord -\n"));
+    }
+
+    #[test]
+    fn sizes() {
+        let script = script();
+        assert!((150_000..500_000).contains(&script.len()));
+        assert!(play(&script).len() < 1_500_000);
+    }
+}

@@ -1,0 +1,220 @@
+//! Long random lists of samples and expiries, with the timer checked against the exact value after each.
+
+use std::fmt::{self, Display};
+
+use crate::exact::{ExactTimer, Lateness, Violation, LATENESS_LIMIT, LATENESS_SCALE};
+use crate::random::Random;
+use crate::timer::{Timer, MAX_SAMPLE};
+use crate::timer_list::{RandomList, TimerCall};
+
+const LONGEST_LIST: u64 = 3_000;
+
+/// What the lists showed.
+#[derive(Clone, Copy, Debug, Default, PartialEq, Eq)]
+pub struct Summary {
+    pub calls: u64,
+    pub checked: u64,
+    pub overall: Extremes,
+    /// Only where the exact value stood at neither limit.
+    pub between_limits: Extremes,
+}
+
+/// The least and the greatest lateness seen, in thousandths of 1/256 ms, rounded down.
+#[derive(Clone, Copy, Debug, Default, PartialEq, Eq)]
+pub struct Extremes(Option<(u64, u64)>);
+
+impl Summary {
+    fn note(&mut self, lateness: Lateness) {
+        self.checked += 1;
+        self.overall.note(lateness.thousandths);
+        if !lateness.at_limit {
+            self.between_limits.note(lateness.thousandths);
+        }
+    }
+}
+
+impl Extremes {
+    fn note(&mut self, seen: u64) {
+        let (least, greatest) = self.0.unwrap_or((seen, seen));
+        self.0 = Some((least.min(seen), greatest.max(seen)));
+    }
+}
+
+impl Display for Summary {
+    fn fmt(&self, f: &mut fmt::Formatter) -> fmt::Result {
+        writeln!(f, "timer: {} calls, {} checked", self.calls, self.checked)?;
+        writeln!(
+            f,
+            "lateness in 1/256 ms, limit {}: {}",
+            LATENESS_LIMIT, self.overall
+        )?;
+        writeln!(f, "away from 1,000 and 60,000 ms: {}", self.between_limits)
+    }
+}
+
+impl Display for Extremes {
+    fn fmt(&self, f: &mut fmt::Formatter) -> fmt::Result {
+        match self.0 {
+            Some((least, greatest)) => write!(f, "{} to {}", Decimal(least), Decimal(greatest)),
+            None => f.write_str("none seen"),
+        }
+    }
+}
+
+/// A lateness as a decimal number.
+struct Decimal(u64);
+
+impl Display for Decimal {
+    fn fmt(&self, f: &mut fmt::Formatter) -> fmt::Result {
+        write!(
+            f,
+            "{}.{:03}",
+            self.0 / LATENESS_SCALE,
+            self.0 % LATENESS_SCALE
+        )
+    }
+}
+
+/// A list at whose end the timer broke its bounds.
+#[derive(Clone, Debug, PartialEq, Eq)]
+pub struct Failure {
+    pub calls: Vec<TimerCall>,
+    pub rto: u32,
+    pub violation: Violation,
+}
+
+impl Display for Failure {
+    fn fmt(&self, f: &mut fmt::Formatter) -> fmt::Result {
+        let kind = match self.violation {
+            Violation::Early => "early",
+            Violation::Late => "late",
+        };
+        writeln!(f, "timer: {} at {} ms after these calls:", kind, self.rto)?;
+        self.calls
+            .iter()
+            .try_for_each(|call| writeln!(f, "{}", call))
+    }
+}
+
+/// Makes so many random calls, in lists that each begin with a new timer.
+pub fn run(calls: u64, seed: u64) -> Result<Summary, Failure> {
+    let mut random = Random::new(seed);
+    let mut summary = Summary::default();
+    while summary.calls < calls {
+        let left = calls - summary.calls;
+        let length = (1 + random.below(LONGEST_LIST)).min(left);
+        let list = RandomList::new(&mut random).take(length);
+        check_list(&list, TimerCall::apply, LATENESS_LIMIT, &mut summary)?;
+    }
+    Ok(summary)
+}
+
+/// Applies a list and checks the timer after every call where the claim holds: some sample was not
+/// refused, and no expiry came after the last such sample.
+fn check_list(
+    list: &[TimerCall],
+    apply: impl Fn(TimerCall, &mut Timer),
+    limit: u64,
+    summary: &mut Summary,
+) -> Result<(), Failure> {
+    let mut timer = Timer::default();
+    let mut exact = ExactTimer::default();
+    let mut expired = false;
+    for (at, &call) in list.iter().enumerate() {
+        apply(call, &mut timer);
+        match call {
+            TimerCall::Expiry => expired = true,
+            TimerCall::Sample(round_trip) if round_trip <= MAX_SAMPLE => {
+                exact.sample(round_trip);
+                expired = false;
+            }
+            TimerCall::Sample(_) => {}
+        }
+        summary.calls += 1;
+        match exact.judge(timer.rto, limit) {
+            Some(Ok(lateness)) if !expired => summary.note(lateness),
+            Some(Err(violation)) if !expired => {
+                return Err(Failure {
+                    calls: list[..=at].to_vec(),
+                    rto: timer.rto,
+                    violation,
+                });
+            }
+            _ => {}
+        }
+    }
+    Ok(())
+}
+
+#[cfg(test)]
+mod tests {
+    use super::*;
+
+    fn check(
+        list: &[TimerCall],
+        apply: impl Fn(TimerCall, &mut Timer),
+        limit: u64,
+    ) -> Result<Summary, Failure> {
+        let mut summary = Summary::default();
+        check_list(list, apply, limit, &mut summary)?;
+        Ok(summary)
+    }
+
+    const LIST: [TimerCall; 6] = [
+        TimerCall::Sample(600_001),
+        TimerCall::Sample(1_000),
+        TimerCall::Sample(1_001),
+        TimerCall::Expiry,
+        TimerCall::Sample(600_001),
+        TimerCall::Sample(1_000),
+    ];
+
+    #[test]
+    fn the_claim_is_checked_where_it_applies() {
+        let summary = check(&LIST, TimerCall::apply, LATENESS_LIMIT).unwrap();
+        assert_eq!((summary.calls, summary.checked), (6, 3));
+        // After the last sample the exact value is 544,252/256 ms, and the timer stands at 2,127.
+        assert_eq!(summary.overall, Extremes(Some((224_000, 260_000))));
+    }
+
+    #[test]
+    fn a_margin_of_zero_fails() {
+        let failure = check(&LIST, TimerCall::apply, 0).unwrap_err();
+        assert_eq!(
+            (failure.calls.len(), failure.violation),
+            (2, Violation::Late)
+        );
+    }
+
+    #[test]
+    fn a_timer_that_ignores_later_samples_fails() {
+        let frozen = |call: TimerCall, timer: &mut Timer| {
+            if !timer.sampled {
+                call.apply(timer);
+            }
+        };
+        let failure = check(&LIST, frozen, LATENESS_LIMIT).unwrap_err();
+        assert_eq!(
+            (failure.calls.len(), failure.violation),
+            (3, Violation::Late)
+        );
+    }
+
+    #[test]
+    fn a_timer_that_forgets_the_allowance_fails() {
+        let unallowed = |call: TimerCall, timer: &mut Timer| {
+            call.apply(timer);
+            let units = timer.smoothed + (4 * timer.variation).max(256);
+            timer.rto = ((units / 256) as u32).clamp(1_000, 60_000);
+        };
+        let failure = check(&LIST, unallowed, LATENESS_LIMIT).unwrap_err();
+        assert_eq!(failure.violation, Violation::Early);
+    }
+
+    #[test]
+    fn random_lists_hold() {
+        let summary = run(5_000, 1).unwrap();
+        assert_eq!(summary.calls, 5_000);
+        assert!(summary.checked > 3_000);
+    }
+}
