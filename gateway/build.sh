@@ -6,7 +6,7 @@ library=$root/target/staticlib/libgateway.a
 
 source "$root/scripts/need.sh"
 
-example_sources=("$gateway"/{example,capture,octets,packet,ipv4,ipv6,flows,report}.c)
+example_sources=("$gateway"/{example,flows,report}.c "$gateway"/capture/{capture,octets,packet,ipv4,ipv6}.c)
 warnings=(-std=c99 -Wall -Wextra -Wpedantic -Wconversion -Wshadow -Werror)
 
 # quietly COMMAND..: what the command prints is shown, on standard error, only where it fails.

@@ -10,10 +10,10 @@
 #include <stdint.h>
 #include <stdio.h>
 
-#include "capture.h"
+#include "capture/capture.h"
 #include "flows.h"
 #include "noppalerk.h"
-#include "packet.h"
+#include "capture/packet.h"
 #include "report.h"
 
 enum status { STATUS_DONE = 0, STATUS_FAILED = 1, STATUS_USAGE = 2 };

@@ -6,7 +6,7 @@
 #include <stddef.h>
 #include <stdint.h>
 
-#include "packet.h"
+#include "capture/packet.h"
 
 struct flow {
     struct endpoints endpoints;

@@ -6,7 +6,7 @@
 
 #include "flows.h"
 #include "noppalerk.h"
-#include "packet.h"
+#include "capture/packet.h"
 
 enum { REPORT_NUMBERS = NOPPALERK_E6 + 1 };
 

@@ -7,7 +7,7 @@
 #include <stdlib.h>
 #include <string.h>
 
-#include "../frames.h"
+#include "../sample/frames.h"
 #include "../noppalerk.h"
 
 /* How a segment of so many octets is judged, with this data offset and these options; the other octets are 0. */

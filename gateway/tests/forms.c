@@ -11,7 +11,7 @@
 #include <stdlib.h>
 #include <string.h>
 
-#include "../octets.h"
+#include "../capture/octets.h"
 
 enum { LONGEST_SAMPLE = 65536, FILE_HEADER = 24, RECORD_HEADER = 16, ETHERNET = 1 };
 

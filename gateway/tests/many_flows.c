@@ -3,7 +3,7 @@
 #include <stdio.h>
 #include <stdlib.h>
 
-#include "../frames.h"
+#include "../sample/frames.h"
 
 int main(int argc, char **argv)
 {

@@ -1,10 +1,10 @@
 /*
  * Runs a command, the example, on many damaged copies of a capture, and checks how it ends.
  *
- * hostile truncations STEP SAMPLE SCRATCH COMMAND..: the capture cut off at every STEP-th length. The status must be 0 where
+ * damaged truncations STEP SAMPLE SCRATCH COMMAND..: the capture cut off at every STEP-th length. The status must be 0 where
  * the cut is between packets and 1 elsewhere, and the packets before the cut must have been counted.
  *
- * hostile damages COUNT SAMPLE SCRATCH COMMAND..: COUNT captures in which some octets are others, the same on every run. The
+ * damaged damages COUNT SAMPLE SCRATCH COMMAND..: COUNT captures in which some octets are others, the same on every run. The
  * status must be 0 or 1.
  *
  * Each damaged capture is the file SCRATCH, and what the command prints goes to SCRATCH.out and SCRATCH.err.
@@ -22,7 +22,7 @@
 #include <sys/wait.h>
 #include <unistd.h>
 
-#include "../octets.h"
+#include "../capture/octets.h"
 
 enum { LONGEST_SAMPLE = 65536, LONGEST_NAME = 4096, MOST_WORDS = 32, FILE_HEADER = 24, RECORD_HEADER = 16 };
 enum { LONGEST_SECONDS = 60 };
@@ -39,7 +39,7 @@ struct trial {
 
 static void stop(const char *reason, const char *name)
 {
-    fprintf(stderr, "hostile: %s: %s\n", name, reason);
+    fprintf(stderr, "damaged: %s: %s\n", name, reason);
     exit(2);
 }
 
@@ -138,7 +138,7 @@ static bool truncation_holds(struct trial *trial, size_t length)
     if (status == (ends_there ? 0 : 1) && (length < FILE_HEADER || printed_packets(trial, packets))) {
         return true;
     }
-    fprintf(stderr, "hostile: the capture cut off at octet %zu: status %d\n", length, status);
+    fprintf(stderr, "damaged: the capture cut off at octet %zu: status %d\n", length, status);
     return false;
 }
 
@@ -172,7 +172,7 @@ static bool damage_holds(struct trial *trial, uint64_t seed)
     if (status == 0 || status == 1) {
         return true;
     }
-    fprintf(stderr, "hostile: damage %llu: status %d\n", (unsigned long long)seed, status);
+    fprintf(stderr, "damaged: damage %llu: status %d\n", (unsigned long long)seed, status);
     return false;
 }
 
@@ -229,7 +229,7 @@ static unsigned long try_all(struct trial *trial, const char *what, unsigned lon
 int main(int argc, char **argv)
 {
     if (argc < 6) {
-        fprintf(stderr, "usage: hostile truncations STEP | damages COUNT, then SAMPLE SCRATCH COMMAND..\n");
+        fprintf(stderr, "usage: damaged truncations STEP | damages COUNT, then SAMPLE SCRATCH COMMAND..\n");
         return 2;
     }
     struct trial *trial = prepare(argc, argv);
