@@ -55,7 +55,7 @@ pub fn compare(
     let mut number = 0;
     while done < count {
         let (script, calls) = random_script(Random::numbered(seed, number), count - done);
-        let theirs = run(program, &script)?;
+        let theirs = written_by(program, &script)?;
         if let Some(line) = first_difference(play(&script).as_bytes(), &theirs) {
             let path = env::temp_dir().join(format!("compare-{}-{}.script", seed, number));
             fs::write(&path, &script)?;
@@ -86,7 +86,7 @@ fn random_script(mut random: Random, limit: u64) -> (Vec<u8>, u64) {
 }
 
 /// What the program writes for a script. Its exit status is its own affair, a signal is not.
-fn run(program: &Path, script: &[u8]) -> io::Result<Vec<u8>> {
+pub fn written_by(program: &Path, script: &[u8]) -> io::Result<Vec<u8>> {
     let mut child = Command::new(program)
         .stdin(Stdio::piped())
         .stdout(Stdio::piped())

@@ -11,9 +11,11 @@ use reference::compare::compare;
 use reference::count::Counts;
 use reference::play::{Player, BAD_LINE};
 use reference::script::Calls;
+use reference::timer_list::TimerCall;
+use reference::timer_run::{own_rtos, rtos_of_program};
 use reference::{stored, timer_run};
 
-const USAGE: &str = "usage: reference play | script | count | timer CALLS SEED | \
+const USAGE: &str = "usage: reference play | script | count | timer CALLS SEED [PROGRAM] | \
                      compare COUNT SEED [PROGRAM]";
 const DEFAULT_PROGRAM: &str = "target/bin/replay";
 
@@ -40,10 +42,10 @@ fn run(words: &[&str]) -> io::Result<ExitCode> {
         ["play"] => play_input(),
         ["script"] => write_output(&stored::script()),
         ["count"] => print(&Counts::of(&read_input()?)),
-        ["timer", calls, seed] => match (calls.parse(), seed.parse()) {
-            (Ok(calls), Ok(seed)) => run_timer(calls, seed),
-            _ => usage(),
-        },
+        ["timer", calls, seed] => run_timer(calls, seed, |list| Ok(own_rtos(list))),
+        ["timer", calls, seed, program] => run_timer(calls, seed, |list| {
+            rtos_of_program(Path::new(program), list).map_err(|error| naming(program, error))
+        }),
         ["compare", count, seed] => run_compare(count, seed, DEFAULT_PROGRAM),
         ["compare", count, seed, program] => run_compare(count, seed, program),
         _ => usage(),
@@ -92,8 +94,16 @@ fn play_input() -> io::Result<ExitCode> {
     Ok(ExitCode::SUCCESS)
 }
 
-fn run_timer(calls: u64, seed: u64) -> io::Result<ExitCode> {
-    match timer_run::run(calls, seed) {
+fn run_timer(
+    calls: &str,
+    seed: &str,
+    rtos: impl Fn(&[TimerCall]) -> io::Result<Vec<u32>>,
+) -> io::Result<ExitCode> {
+    let (calls, seed) = match (calls.parse(), seed.parse()) {
+        (Ok(calls), Ok(seed)) => (calls, seed),
+        _ => return usage(),
+    };
+    match timer_run::run(calls, seed, rtos)? {
         Ok(summary) => print(&summary),
         Err(failure) => {
             print(&failure)?;

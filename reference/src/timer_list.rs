@@ -3,6 +3,7 @@
 use std::fmt::{self, Display};
 
 use crate::random::Random;
+use crate::script::Call;
 use crate::timer::{Timer, MAX_SAMPLE};
 
 /// One call that moves a timer.
@@ -20,6 +21,14 @@ impl TimerCall {
                 let _ = timer.sample(round_trip);
             }
             TimerCall::Expiry => timer.expire(),
+        }
+    }
+
+    /// The call as a script has it, of the timer that stands by itself.
+    pub fn scripted(self) -> Call<'static> {
+        match self {
+            TimerCall::Sample(round_trip) => Call::Sample { round_trip },
+            TimerCall::Expiry => Call::Expiry,
         }
     }
 }

@@ -1,9 +1,13 @@
 //! Long random lists of samples and expiries, with the timer checked against the exact value after each.
 
 use std::fmt::{self, Display};
+use std::io;
+use std::path::Path;
 
+use crate::compare::written_by;
 use crate::exact::{ExactTimer, Lateness, Violation, LATENESS_LIMIT, LATENESS_SCALE};
 use crate::random::Random;
+use crate::script::Call;
 use crate::timer::{Timer, MAX_SAMPLE};
 use crate::timer_list::{RandomList, TimerCall};
 
@@ -96,32 +100,83 @@ impl Display for Failure {
     }
 }
 
-/// Makes so many random calls, in lists that each begin with a new timer.
-pub fn run(calls: u64, seed: u64) -> Result<Summary, Failure> {
+/// Makes so many random calls, in lists that each begin with a new timer, and judges what `rtos` says that
+/// the timer stands at after each call of a list.
+pub fn run(
+    calls: u64,
+    seed: u64,
+    rtos: impl Fn(&[TimerCall]) -> io::Result<Vec<u32>>,
+) -> io::Result<Result<Summary, Failure>> {
     let mut random = Random::new(seed);
     let mut summary = Summary::default();
     while summary.calls < calls {
         let left = calls - summary.calls;
         let length = (1 + random.below(LONGEST_LIST)).min(left);
         let list = RandomList::new(&mut random).take(length);
-        check_list(&list, TimerCall::apply, LATENESS_LIMIT, &mut summary)?;
+        let rtos = rtos(&list)?;
+        if let Err(failure) = check_list(&list, &rtos, LATENESS_LIMIT, &mut summary) {
+            return Ok(Err(failure));
+        }
     }
-    Ok(summary)
+    Ok(Ok(summary))
 }
 
-/// Applies a list and checks the timer after every call where the claim holds: some sample was not
-/// refused, and no expiry came after the last such sample.
+/// Where our own timer stands after each call of a list.
+pub fn own_rtos(list: &[TimerCall]) -> Vec<u32> {
+    rtos_by(list, TimerCall::apply)
+}
+
+/// Where another program's timer stands after each call of a list.
+pub fn rtos_of_program(program: &Path, list: &[TimerCall]) -> io::Result<Vec<u32>> {
+    let mut script = Vec::new();
+    Call::Timer.encode(&mut script);
+    for call in list {
+        call.scripted().encode(&mut script);
+    }
+    let written = written_by(program, &script)?;
+    let rtos = rtos_written(&String::from_utf8_lossy(&written));
+    if rtos.len() != list.len() + 1 {
+        return Err(io::Error::new(
+            io::ErrorKind::InvalidData,
+            "it did not write a timer line for each call",
+        ));
+    }
+    // The first line is that of the new timer.
+    Ok(rtos[1..].to_vec())
+}
+
+fn rtos_by(list: &[TimerCall], apply: impl Fn(TimerCall, &mut Timer)) -> Vec<u32> {
+    let mut timer = Timer::default();
+    let after = |&call: &TimerCall| {
+        apply(call, &mut timer);
+        timer.rto
+    };
+    list.iter().map(after).collect()
+}
+
+/// The last field of each timer line.
+fn rtos_written(lines: &str) -> Vec<u32> {
+    let rto = |line: &str| {
+        line.strip_prefix("timer-state ")?
+            .rsplit(' ')
+            .next()?
+            .parse()
+            .ok()
+    };
+    lines.lines().filter_map(rto).collect()
+}
+
+/// Checks the timer after every call of a list where the claim holds: some sample was not refused, and no
+/// expiry came after the last such sample.
 fn check_list(
     list: &[TimerCall],
-    apply: impl Fn(TimerCall, &mut Timer),
+    rtos: &[u32],
     limit: u64,
     summary: &mut Summary,
 ) -> Result<(), Failure> {
-    let mut timer = Timer::default();
     let mut exact = ExactTimer::default();
     let mut expired = false;
-    for (at, &call) in list.iter().enumerate() {
-        apply(call, &mut timer);
+    for (at, (&call, &rto)) in list.iter().zip(rtos).enumerate() {
         match call {
             TimerCall::Expiry => expired = true,
             TimerCall::Sample(round_trip) if round_trip <= MAX_SAMPLE => {
@@ -131,12 +186,12 @@ fn check_list(
             TimerCall::Sample(_) => {}
         }
         summary.calls += 1;
-        match exact.judge(timer.rto, limit) {
+        match exact.judge(rto, limit) {
             Some(Ok(lateness)) if !expired => summary.note(lateness),
             Some(Err(violation)) if !expired => {
                 return Err(Failure {
                     calls: list[..=at].to_vec(),
-                    rto: timer.rto,
+                    rto,
                     violation,
                 });
             }
@@ -156,7 +211,7 @@ mod tests {
         limit: u64,
     ) -> Result<Summary, Failure> {
         let mut summary = Summary::default();
-        check_list(list, apply, limit, &mut summary)?;
+        check_list(list, &rtos_by(list, apply), limit, &mut summary)?;
         Ok(summary)
     }
 
@@ -213,8 +268,19 @@ mod tests {
 
     #[test]
     fn random_lists_hold() {
-        let summary = run(5_000, 1).unwrap();
+        let summary = run(5_000, 1, |list| Ok(own_rtos(list))).unwrap().unwrap();
         assert_eq!(summary.calls, 5_000);
         assert!(summary.checked > 3_000);
+    }
+
+    #[test]
+    fn the_last_field_of_a_timer_line_is_its_rto() {
+        let lines = "timer\ntimer-state 0 0 0 1000\nexpiry\ntimer-state 0 0 0 2000\nbad\n";
+        assert_eq!(rtos_written(lines), [1_000, 2_000]);
+    }
+
+    #[test]
+    fn a_program_that_writes_no_timer_lines_is_an_error() {
+        assert!(rtos_of_program(Path::new("true"), &LIST).is_err());
     }
 }
