@@ -4,20 +4,10 @@ root=$(CDPATH='' cd -- "$(dirname -- "${BASH_SOURCE[0]}")/.." && pwd)
 gateway=$root/gateway
 library=$root/target/staticlib/libgateway.a
 
-source "$root/scripts/need.sh"
+source "$root/scripts/common.sh"
 
 example_sources=("$gateway"/{example,flows,report}.c "$gateway"/capture/{capture,octets,packet,ipv4,ipv6}.c)
 warnings=(-std=c99 -Wall -Wextra -Wpedantic -Wconversion -Wshadow -Werror)
-
-# quietly COMMAND..: what the command prints is shown, on standard error, only where it fails.
-quietly() {
-    local printed
-    if ! printed=$("$@" 2>&1); then
-        printf '%s\n' "$printed" >&2
-        echo "error: $* failed" >&2
-        exit 2
-    fi
-}
 
 in_root() {
     cd "$root" && "$@"
@@ -26,7 +16,7 @@ in_root() {
 build_library() {
     need_toolchain
     if [ ! -e "$library" ]; then
-        echo "building the library; its crates are proved first, which takes about two minutes" >&2
+        echo "building the library; its crates are proved first, which takes about a minute" >&2
     fi
     quietly in_root rt staticlib gateway
 }

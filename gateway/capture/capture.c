@@ -19,16 +19,10 @@ static const uint32_t PCAPNG = 0x0a0d0d0a;
 /* Above these bits of the link type stands the length of a frame check sequence, which the IP lengths leave out anyway. */
 static const uint32_t LINK_TYPE_BITS = 0x03ffffff;
 
-static uint32_t turned(uint32_t number)
-{
-    return number >> 24 | (number >> 8 & 0xff00) | (number << 8 & 0xff0000) | number << 24;
-}
-
 /* A number of 32 bits in the capture's byte order. */
 static uint32_t number_at(const struct capture *capture, struct octets header, size_t place)
 {
-    uint32_t number = octets_u32(header, place);
-    return capture->is_little_endian ? turned(number) : number;
+    return capture->is_little_endian ? octets_little_endian_u32(header, place) : octets_u32(header, place);
 }
 
 static bool is_pcap(uint32_t magic)
@@ -36,13 +30,13 @@ static bool is_pcap(uint32_t magic)
     return magic == MICROSECONDS || magic == NANOSECONDS;
 }
 
-static bool read_magic(struct capture *capture, uint32_t magic)
+static bool read_magic(struct capture *capture, struct octets header)
 {
-    if (is_pcap(magic) || is_pcap(turned(magic))) {
-        capture->is_little_endian = !is_pcap(magic);
+    capture->is_little_endian = is_pcap(octets_little_endian_u32(header, 0));
+    if (capture->is_little_endian || is_pcap(octets_u32(header, 0))) {
         return true;
     }
-    if (magic == PCAPNG) {
+    if (octets_u32(header, 0) == PCAPNG) {
         fprintf(stderr, "%s: a pcapng file, which is not read; convert it with: editcap -F pcap %s converted.pcap\n",
                 capture->name, capture->name);
     } else {
@@ -72,7 +66,7 @@ static bool read_file_header(struct capture *capture)
         fprintf(stderr, "%s: cannot be read: %s\n", capture->name, strerror(errno));
         return false;
     }
-    if (!read_magic(capture, octets_u32(header, 0))) {
+    if (!read_magic(capture, header)) {
         return false;
     }
     if (header.length < sizeof room) {

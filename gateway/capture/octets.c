@@ -32,6 +32,12 @@ uint32_t octets_u32(struct octets all, size_t place)
     return (uint32_t)octets_u16(all, place) << 16 | octets_u16(all, place + 2);
 }
 
+uint32_t octets_little_endian_u32(struct octets all, size_t place)
+{
+    return (uint32_t)octets_u8(all, place) | (uint32_t)octets_u8(all, place + 1) << 8
+        | (uint32_t)octets_u8(all, place + 2) << 16 | (uint32_t)octets_u8(all, place + 3) << 24;
+}
+
 void octets_copy(uint8_t *to, struct octets all, size_t place, size_t count)
 {
     for (size_t i = 0; i < count; i++) {

@@ -22,6 +22,9 @@ uint8_t octets_u8(struct octets all, size_t place);
 uint16_t octets_u16(struct octets all, size_t place);
 uint32_t octets_u32(struct octets all, size_t place);
 
+/* A number with its lowest octet first, as captures often have it. */
+uint32_t octets_little_endian_u32(struct octets all, size_t place);
+
 void octets_copy(uint8_t *to, struct octets all, size_t place, size_t count);
 
 #endif

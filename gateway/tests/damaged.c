@@ -97,19 +97,13 @@ static void show_errors(struct trial *trial)
     fwrite(trial->work, 1, read_file(trial->err, trial->work, sizeof trial->work), stderr);
 }
 
-static uint32_t little_endian(struct octets octets, size_t place)
-{
-    return (uint32_t)octets_u8(octets, place) | (uint32_t)octets_u8(octets, place + 1) << 8
-        | (uint32_t)octets_u8(octets, place + 2) << 16 | (uint32_t)octets_u8(octets, place + 3) << 24;
-}
-
 /* How many whole packets the first octets of the sample hold, and whether they end with the last of them. */
 static unsigned long whole_packets(struct octets octets, bool *ends_there)
 {
     unsigned long packets = 0;
     size_t place = FILE_HEADER;
     while (place + RECORD_HEADER <= octets.length) {
-        size_t next = place + RECORD_HEADER + little_endian(octets, place + 8);
+        size_t next = place + RECORD_HEADER + octets_little_endian_u32(octets, place + 8);
         if (next > octets.length) {
             break;
         }

@@ -22,12 +22,6 @@ struct form {
     unsigned version; /* 0 for both */
 };
 
-static uint32_t sample_u32(struct octets octets, size_t place)
-{
-    uint32_t number = octets_u32(octets, place);
-    return number >> 24 | (number >> 8 & 0xff00) | (number << 8 & 0xff0000) | number << 24;
-}
-
 static void write_number(const struct form *form, uint32_t number, unsigned bits)
 {
     for (unsigned written = 0; written < bits; written += 8) {
@@ -70,10 +64,10 @@ static void write_record(const struct form *form, struct octets record)
     if (!is_wanted(form, frame)) {
         return;
     }
-    write_number(form, sample_u32(record, 0), 32);
-    write_number(form, sample_u32(record, 4) * (form->is_nano ? 1000 : 1), 32);
+    write_number(form, octets_little_endian_u32(record, 0), 32);
+    write_number(form, octets_little_endian_u32(record, 4) * (form->is_nano ? 1000 : 1), 32);
     write_number(form, (uint32_t)kept.length, 32);
-    write_number(form, sample_u32(record, 12) - (uint32_t)left_out, 32);
+    write_number(form, octets_little_endian_u32(record, 12) - (uint32_t)left_out, 32);
     fwrite(kept.at, 1, kept.length, stdout);
 }
 
@@ -94,7 +88,7 @@ static void write_form(const struct form *form, struct octets sample)
     struct octets rest = octets_after(sample, FILE_HEADER);
     write_file_header(form);
     while (rest.length > 0) {
-        size_t length = RECORD_HEADER + (size_t)sample_u32(rest, 8);
+        size_t length = RECORD_HEADER + (size_t)octets_little_endian_u32(rest, 8);
         write_record(form, octets_first(rest, length));
         rest = octets_after(rest, length);
     }

@@ -5,6 +5,7 @@
 
 pub mod acknowledgment;
 pub mod builder;
+pub mod cases;
 pub mod compare;
 pub mod connection;
 pub mod count;

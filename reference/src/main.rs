@@ -9,8 +9,7 @@ use std::time::{Duration, Instant};
 
 use reference::compare::compare;
 use reference::count::Counts;
-use reference::play::{Player, BAD_LINE};
-use reference::script::Calls;
+use reference::play::play;
 use reference::timer_list::TimerCall;
 use reference::timer_run::{own_rtos, rtos_of_program};
 use reference::{stored, timer_run};
@@ -21,9 +20,6 @@ const DEFAULT_PROGRAM: &str = "target/bin/replay";
 
 const DIFFERENT: u8 = 1;
 const CANNOT_RUN: u8 = 2;
-
-/// Output is handed on in pieces of about this many octets.
-const OUTPUT_PIECE: usize = 1 << 16;
 
 fn main() -> ExitCode {
     let arguments: Vec<String> = env::args().skip(1).collect();
@@ -39,7 +35,7 @@ fn main() -> ExitCode {
 
 fn run(words: &[&str]) -> io::Result<ExitCode> {
     match *words {
-        ["play"] => play_input(),
+        ["play"] => write_output(play(&read_input()?).as_bytes()),
         ["script"] => write_output(&stored::script()),
         ["count"] => print(&Counts::of(&read_input()?)),
         ["timer", calls, seed] => run_timer(calls, seed, |list| Ok(own_rtos(list))),
@@ -72,26 +68,6 @@ fn write_output(octets: &[u8]) -> io::Result<ExitCode> {
 
 fn print(text: &impl Display) -> io::Result<ExitCode> {
     write_output(text.to_string().as_bytes())
-}
-
-fn play_input() -> io::Result<ExitCode> {
-    let script = read_input()?;
-    let mut output = io::stdout().lock();
-    let mut player = Player::default();
-    let mut lines = String::new();
-    for call in Calls::new(&script) {
-        match call {
-            Ok(call) => player.play(&call, &mut lines),
-            Err(_) => lines.push_str(BAD_LINE),
-        }
-        if lines.len() >= OUTPUT_PIECE {
-            output.write_all(lines.as_bytes())?;
-            lines.clear();
-        }
-    }
-    output.write_all(lines.as_bytes())?;
-    output.flush()?;
-    Ok(ExitCode::SUCCESS)
 }
 
 fn run_timer(

@@ -1,5 +1,8 @@
 //! Serial numbers: 32-bit counts that wrap. Sequence numbers and timestamps are distinct types.
 
+/// Half of the 2^32 serial numbers: at this distance neither of two is before the other.
+pub const HALF: u32 = 1 << 31;
+
 /// The distance from `a` to `b`: the number from -2^31 to 2^31 - 1 that equals b - a modulo 2^32.
 pub fn distance(a: u32, b: u32) -> i32 {
     b.wrapping_sub(a) as i32
@@ -63,8 +66,6 @@ impl Stamp {
 #[cfg(test)]
 mod tests {
     use super::*;
-
-    const HALF: u32 = 1 << 31;
 
     #[test]
     fn m1_to_m3() {

@@ -2,28 +2,10 @@
 
 use super::*;
 use crate::builder::SegmentBuilder;
+use crate::cases::{self, opening, syn, CLOCK, ISS, UNA};
 use crate::segment::{ACK, FIN, RST, SYN};
+use crate::serial::HALF;
 use crate::timer::MIN_RTO;
-
-const HALF: u32 = 1 << 31;
-const ISS: Seq = Seq(1_000);
-const UNA: Seq = Seq(1_001);
-
-fn opening() -> Opening {
-    Opening {
-        iss: ISS,
-        shift: None,
-        timestamps: false,
-        sack: false,
-        window: 65_535,
-        offset: 0,
-        clock: 10_000,
-    }
-}
-
-fn syn() -> SegmentBuilder {
-    SegmentBuilder::new(Seq(4_999), UNA, SYN | ACK)
-}
 
 /// A record at RCV.NXT 5000 with SACK in force.
 fn with_sack() -> Connection {
@@ -45,7 +27,7 @@ fn with_timestamps() -> Connection {
 }
 
 fn data(seq: u32, length: usize) -> SegmentBuilder {
-    SegmentBuilder::data(Seq(seq), UNA, length)
+    cases::data(Seq(seq), length)
 }
 
 fn arrive(connection: &mut Connection, clock: u64, segment: &SegmentBuilder) -> u8 {
@@ -56,7 +38,7 @@ fn arrive(connection: &mut Connection, clock: u64, segment: &SegmentBuilder) -> 
 }
 
 fn take(connection: &mut Connection, segment: &SegmentBuilder) -> Taken {
-    match connection.arrive(10_000, &segment.build()) {
+    match connection.arrive(CLOCK, &segment.build()) {
         Ok(Verdict::Take(taken)) => taken,
         other => panic!("not taken: {:?}", other),
     }
@@ -70,7 +52,7 @@ fn held(connection: &Connection) -> Vec<(u32, u32)> {
 /// The ACK and the SACK blocks of an acknowledgment, read back from what is written.
 fn acknowledged(connection: &mut Connection) -> (u32, Vec<(u32, u32)>) {
     let mut buffer = [0xee; 60];
-    let length = connection.acknowledge(1, 2, 10_000, &mut buffer).unwrap();
+    let length = connection.acknowledge(1, 2, CLOCK, &mut buffer).unwrap();
     assert!(buffer[length..].iter().all(|&octet| octet == 0xee));
     let segment = Segment::read(&buffer[..length]).unwrap();
     let blocks = segment.options.sack;
@@ -190,9 +172,9 @@ fn parts_are_cut_by_both_edges() {
     assert_eq!(part(&connection, &data(5_005, 4).flags(fin)), (5, 5, true));
     assert_eq!(part(&connection, &data(5_005, 5).flags(fin)), (5, 5, false));
     assert_eq!(part(&connection, &data(5_009, 0)), (0, 0, false));
-    assert_eq!(arrive(&mut connection, 10_000, &data(5_010, 0)), 24);
-    assert_eq!(arrive(&mut connection, 10_000, &data(4_999, 12)), 24);
-    assert_eq!(arrive(&mut connection, 10_000, &data(4_990, 10)), 24);
+    assert_eq!(arrive(&mut connection, CLOCK, &data(5_010, 0)), 24);
+    assert_eq!(arrive(&mut connection, CLOCK, &data(4_999, 12)), 24);
+    assert_eq!(arrive(&mut connection, CLOCK, &data(4_990, 10)), 24);
     assert_eq!(part(&connection, &data(4_999, 11)), (0, 10, false));
 }
 
@@ -200,11 +182,11 @@ fn parts_are_cut_by_both_edges() {
 fn a_closed_window_accepts_only_an_empty_segment_at_next() {
     let mut connection = with_sack();
     connection.rcv_wnd = 0;
-    assert_eq!(arrive(&mut connection, 10_000, &data(5_000, 0)), 0);
-    assert_eq!(arrive(&mut connection, 10_000, &data(5_001, 0)), 24);
-    assert_eq!(arrive(&mut connection, 10_000, &data(5_000, 1)), 24);
+    assert_eq!(arrive(&mut connection, CLOCK, &data(5_000, 0)), 0);
+    assert_eq!(arrive(&mut connection, CLOCK, &data(5_001, 0)), 24);
+    assert_eq!(arrive(&mut connection, CLOCK, &data(5_000, 1)), 24);
     assert_eq!(
-        arrive(&mut connection, 10_000, &data(5_000, 1).flags(RST)),
+        arrive(&mut connection, CLOCK, &data(5_000, 1).flags(RST)),
         23
     );
 }
@@ -214,15 +196,15 @@ fn resets() {
     let mut connection = with_timestamps();
     let before = connection;
     assert_eq!(
-        arrive(&mut connection, 10_000, &data(5_000, 0).flags(RST)),
+        arrive(&mut connection, CLOCK, &data(5_000, 0).flags(RST)),
         25
     );
     assert_eq!(
-        arrive(&mut connection, 10_000, &data(5_001, 0).flags(RST)),
+        arrive(&mut connection, CLOCK, &data(5_001, 0).flags(RST)),
         26
     );
     assert_eq!(
-        arrive(&mut connection, 10_000, &data(4_999, 0).flags(RST)),
+        arrive(&mut connection, CLOCK, &data(4_999, 0).flags(RST)),
         23
     );
     assert_eq!(
@@ -236,7 +218,7 @@ fn resets() {
 fn timestamps_2_31_apart_are_not_old() {
     let stamped = |value: Stamp| data(5_000, 0).timestamps(value, Stamp(0));
     let recent = Stamp(100);
-    let number = |value| arrive(&mut with_timestamps(), 10_000, &stamped(value));
+    let number = |value| arrive(&mut with_timestamps(), CLOCK, &stamped(value));
     assert_eq!(number(recent), 0);
     assert_eq!(number(recent.minus(1)), 22);
     assert_eq!(number(recent.minus(HALF - 1)), 22);
@@ -248,8 +230,8 @@ fn timestamps_2_31_apart_are_not_old() {
 fn ts_recent_is_outdated_after_more_than_24_days() {
     let old = data(5_000, 0).timestamps(Stamp(99), Stamp(0));
     let number = |clock| arrive(&mut with_timestamps(), clock, &old);
-    assert_eq!(number(10_000 + 2_073_600_000), 22);
-    assert_eq!(number(10_000 + 2_073_600_001), 0);
+    assert_eq!(number(CLOCK + 2_073_600_000), 22);
+    assert_eq!(number(CLOCK + 2_073_600_001), 0);
 }
 
 #[test]
@@ -259,7 +241,7 @@ fn ts_recent_follows_only_segments_at_or_before_last_ack_sent() {
     assert_eq!(arrive(&mut connection, 10_001, &stamped(5_001)), 0);
     assert_eq!(
         (connection.ts_recent, connection.ts_recent_clock),
-        (Stamp(100), 10_000)
+        (Stamp(100), CLOCK)
     );
     assert_eq!(arrive(&mut connection, 10_002, &stamped(5_000)), 0);
     assert_eq!(
@@ -312,11 +294,7 @@ fn acks_around_the_sent_octets() {
     assert_eq!(connection.note_sent(1), Err(Refusal::BeyondSendWindow));
     let nxt = UNA.plus(8_192);
     let number = |connection: &mut Connection, ack| {
-        arrive(
-            connection,
-            10_000,
-            &SegmentBuilder::data(Seq(5_000), ack, 0),
-        )
+        arrive(connection, CLOCK, &SegmentBuilder::data(Seq(5_000), ack, 0))
     };
     assert_eq!(number(&mut connection, nxt.plus(1)), 29);
     assert_eq!(number(&mut connection, nxt.plus(HALF - 1)), 29);
@@ -331,7 +309,7 @@ fn samples_of_a_record() {
     let mut connection = with_timestamps();
     connection.note_sent(10).unwrap();
     let acking = |ack: u32, round_trip: u32| {
-        let stamp = Stamp::of_clock(10_000, 0);
+        let stamp = Stamp::of_clock(CLOCK, 0);
         SegmentBuilder::data(Seq(5_000), UNA.plus(ack), 0)
             .timestamps(Stamp(100), stamp.minus(round_trip))
     };
@@ -365,11 +343,11 @@ fn no_room_for_a_ninth_range() {
         take(&mut connection, &data(5_000 + 10 * index, 2));
     }
     let before = connection;
-    assert_eq!(arrive(&mut connection, 10_000, &data(5_090, 2)), 30);
+    assert_eq!(arrive(&mut connection, CLOCK, &data(5_090, 2)), 30);
     assert_eq!(connection, before);
-    assert_eq!(arrive(&mut connection, 10_000, &data(5_082, 2)), 0);
-    assert_eq!(arrive(&mut connection, 10_000, &data(5_000, 10)), 0);
-    assert_eq!(arrive(&mut connection, 10_000, &data(5_090, 2)), 0);
+    assert_eq!(arrive(&mut connection, CLOCK, &data(5_082, 2)), 0);
+    assert_eq!(arrive(&mut connection, CLOCK, &data(5_000, 10)), 0);
+    assert_eq!(arrive(&mut connection, CLOCK, &data(5_090, 2)), 0);
 }
 
 #[test]
@@ -418,9 +396,9 @@ fn acknowledgment_refusals_in_order() {
         Err(Refusal::ClockWentBack)
     );
     assert_eq!(
-        connection.acknowledge(1, 2, 10_000, &mut short),
+        connection.acknowledge(1, 2, CLOCK, &mut short),
         Err(Refusal::BufferTooShort)
     );
     assert_eq!((connection, short), (before, [7; 31]));
-    assert_eq!(connection.acknowledge(1, 2, 10_000, &mut [7; 32]), Ok(32));
+    assert_eq!(connection.acknowledge(1, 2, CLOCK, &mut [7; 32]), Ok(32));
 }

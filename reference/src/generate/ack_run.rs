@@ -3,9 +3,9 @@
 use crate::builder::SegmentBuilder;
 use crate::connection::Connection;
 use crate::script::Call;
-use crate::serial::{Seq, Stamp};
+use crate::serial::{Seq, Stamp, HALF};
 
-use super::edges::{beside, HALF};
+use super::edges::beside;
 use super::opening::random_window_field;
 use super::Generator;
 

@@ -5,9 +5,9 @@ use crate::connection::Connection;
 use crate::random::Random;
 use crate::ranges::Range;
 use crate::segment::{ACK, FIN, MAX_SEGMENT, PSH, RST, SYN};
-use crate::serial::{Seq, Stamp};
+use crate::serial::{Seq, Stamp, HALF};
 
-use super::edges::{beside, round_trip, serial_near, HALF};
+use super::edges::{beside, round_trip, serial_near};
 use super::opening::random_window_field;
 use super::{damage, Generator, Pattern, LONG_ARRIVAL_RATE, LONG_FREE_RATE};
 

@@ -1,10 +1,8 @@
 //! Random numbers beside the places where an answer turns.
 
 use crate::random::Random;
+use crate::serial::HALF;
 use crate::timer::MAX_SAMPLE;
-
-/// Half of the 2^32 serial numbers.
-pub const HALF: u32 = 1 << 31;
 
 /// The number itself or one beside it.
 pub fn beside(random: &mut Random, number: u32) -> u32 {

@@ -11,6 +11,7 @@ use crate::connection::Connection;
 use crate::play::Player;
 use crate::random::Random;
 use crate::script::{Call, MAX_BODY};
+use crate::serial::HALF;
 use crate::timer::{MAX_SAMPLE, MAX_SMOOTHED};
 
 use self::ack_run::AckRun;
@@ -222,14 +223,12 @@ impl Generator {
         let outstanding = connection.snd_una.offset_of(connection.snd_nxt);
         let room = connection.snd_wnd.saturating_sub(outstanding);
         // 2^31 above WL2 is where the order of WL2 and ACK turns.
-        let to_half = connection
-            .snd_nxt
-            .offset_of(connection.snd_wl2.plus(edges::HALF));
+        let to_half = connection.snd_nxt.offset_of(connection.snd_wl2.plus(HALF));
         let count = match self.random.below(10) {
             0 => room.wrapping_add(1),
             1 => beside(&mut self.random, room),
             2 => self.random.next_u32(),
-            3 => self.random.pick(&[0, u32::MAX, 1 << 31]),
+            3 => self.random.pick(&[0, u32::MAX, HALF]),
             4 if to_half <= room => to_half,
             4..=6 => room,
             _ => self.random.below_u32(room.min(2_000) + 1),
@@ -292,7 +291,7 @@ impl Generator {
 
     fn add_distance(&mut self) {
         let a = self.random.next_u32();
-        let a = self.random.pick(&[0, u32::MAX, 1 << 31, a]);
+        let a = self.random.pick(&[0, u32::MAX, HALF, a]);
         let b = serial_near(&mut self.random, a);
         if self.random.percent(50) {
             self.push(&Call::Distance { a, b });

@@ -1,10 +1,11 @@
 //! Acknowledgments: E8, E7 at every length, and the window field.
 
 use crate::builder::SegmentBuilder;
+use crate::cases::{data, opening, stamped, syn, CLOCK, NEXT, RECENT};
 use crate::connection::Opening;
 use crate::serial::{Seq, Stamp};
 
-use super::calls::{data, opening, stamped, syn, CallList, CLOCK, NEXT, RECENT};
+use super::calls::CallList;
 
 pub fn add(calls: &mut CallList) {
     clock_went_back(calls);

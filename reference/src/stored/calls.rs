@@ -1,21 +1,10 @@
-//! The list of calls that the stored script is put together from, and the openings that most cases share.
+//! The list of calls that the stored script is put together from.
 
 use crate::builder::SegmentBuilder;
+use crate::cases::{opening, syn, CLOCK, RECENT};
 use crate::connection::Opening;
 use crate::script::Call;
-use crate::segment::{ACK, SYN};
-use crate::serial::{Seq, Stamp};
-
-/// The clock at which the shared openings open.
-pub const CLOCK: u64 = 10_000;
-pub const ISS: Seq = Seq(1_000);
-/// SND.UNA and SND.NXT after a shared opening.
-pub const UNA: Seq = Seq(1_001);
-/// RCV.NXT after a shared opening.
-pub const NEXT: Seq = Seq(5_000);
-/// TS.Recent after a shared opening with timestamps.
-pub const RECENT: Stamp = Stamp(100);
-pub const HALF: u32 = 1 << 31;
+use crate::serial::Stamp;
 
 const FILLER: u8 = 0xee;
 
@@ -137,32 +126,4 @@ impl CallList {
         self.add(&Call::Distance { a, b });
         self.add(&Call::DistanceFromC { a, b });
     }
-}
-
-/// Our side of a shared opening: nothing offered, the largest first window.
-pub fn opening() -> Opening {
-    Opening {
-        iss: ISS,
-        shift: None,
-        timestamps: false,
-        sack: false,
-        window: 65_535,
-        offset: 0,
-        clock: CLOCK,
-    }
-}
-
-/// The peer's SYN of a shared opening; it acknowledges ours and has no options.
-pub fn syn() -> SegmentBuilder {
-    SegmentBuilder::new(NEXT.minus(1), UNA, SYN | ACK)
-}
-
-/// A segment with ACK = SND.UNA.
-pub fn data(seq: Seq, length: usize) -> SegmentBuilder {
-    SegmentBuilder::data(seq, UNA, length)
-}
-
-/// A segment with ACK = SND.UNA and TSval = TS.Recent.
-pub fn stamped(seq: Seq, length: usize) -> SegmentBuilder {
-    data(seq, length).timestamps(RECENT, Stamp(0))
 }

@@ -1,9 +1,10 @@
 //! Finding an option by a list of kinds.
 
+use crate::cases::{data, NEXT};
 use crate::script::Call;
 use crate::serial::Stamp;
 
-use super::calls::{data, CallList, NEXT};
+use super::calls::CallList;
 
 pub fn add(calls: &mut CallList) {
     let segment = data(NEXT, 4)

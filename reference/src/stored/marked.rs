@@ -1,10 +1,11 @@
 //! The marked cases M1 to M12 as calls.
 
+use crate::cases::{data, opening, syn, NEXT};
 use crate::connection::Opening;
 use crate::script::Call;
-use crate::serial::{Seq, Stamp};
+use crate::serial::{Seq, Stamp, HALF};
 
-use super::calls::{data, opening, syn, CallList, HALF, NEXT};
+use super::calls::CallList;
 
 const LARGEST_WINDOW: u32 = 1_073_725_440;
 

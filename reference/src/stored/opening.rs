@@ -1,12 +1,13 @@
 //! Openings: the offers of both sides, and the refusals E9 to E11.
 
 use crate::builder::SegmentBuilder;
+use crate::cases::{opening, syn, ISS, NEXT, UNA};
 use crate::connection::Opening;
 use crate::script::Call;
 use crate::segment::{ACK, FIN, PSH, RST, SYN};
 use crate::serial::{Seq, Stamp};
 
-use super::calls::{opening, syn, CallList, ISS, NEXT, UNA};
+use super::calls::CallList;
 
 pub fn add(calls: &mut CallList) {
     own_offers(calls);

@@ -1,11 +1,12 @@
 //! Held ranges: joined, brought first, full, advanced through, and wrapped.
 
 use crate::builder::SegmentBuilder;
+use crate::cases::{data, opening, stamped, NEXT, UNA};
 use crate::connection::Opening;
 use crate::segment::{ACK, FIN, SYN};
 use crate::serial::Seq;
 
-use super::calls::{data, opening, stamped, CallList, NEXT, UNA};
+use super::calls::CallList;
 
 const BUFFER: usize = 60;
 

@@ -1,12 +1,13 @@
 //! Segments at the limits of reading, by every call that reads one.
 
 use crate::builder::{SegmentBuilder, MAX_OPTIONS};
+use crate::cases::{data, opening, CLOCK, NEXT, UNA};
 use crate::ranges::Range;
 use crate::script::Call;
 use crate::segment::{ACK, MAX_SEGMENT};
 use crate::serial::{Seq, Stamp};
 
-use super::calls::{data, opening, CallList, CLOCK, NEXT, UNA};
+use super::calls::CallList;
 
 const KNOWN_KINDS: [u8; 5] = [2, 3, 4, 5, 8];
 

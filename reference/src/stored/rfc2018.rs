@@ -1,8 +1,9 @@
 //! The examples of RFC 2018: eight segments of 500 octets from 5000, some of them lost.
 
+use crate::cases::data;
 use crate::serial::Seq;
 
-use super::calls::{data, CallList};
+use super::calls::CallList;
 
 const LENGTH: usize = 500;
 /// Room for the longest acknowledgment.

@@ -1,11 +1,12 @@
 //! Noting sent octets and opening the receive window: E12 and E13.
 
 use crate::builder::SegmentBuilder;
+use crate::cases::{data, opening, syn, NEXT, UNA};
 use crate::connection::Opening;
 use crate::script::Call;
 use crate::serial::Seq;
 
-use super::calls::{data, opening, syn, CallList, NEXT, UNA};
+use super::calls::CallList;
 
 pub fn add(calls: &mut CallList) {
     sent(calls);

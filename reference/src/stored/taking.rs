@@ -1,13 +1,14 @@
 //! What a taken segment changes: its part, the send side, TS.Recent, samples, the peer's SACK blocks.
 
 use crate::builder::SegmentBuilder;
+use crate::cases::{data, opening, stamped, syn, CLOCK, NEXT, RECENT, UNA};
 use crate::connection::Opening;
 use crate::ranges::Range;
 use crate::script::Call;
 use crate::segment::{ACK, FIN};
-use crate::serial::{Seq, Stamp};
+use crate::serial::{Seq, Stamp, HALF};
 
-use super::calls::{data, opening, stamped, syn, CallList, CLOCK, HALF, NEXT, RECENT, UNA};
+use super::calls::CallList;
 
 pub fn add(calls: &mut CallList) {
     parts(calls);

@@ -1,9 +1,10 @@
 //! Calls before any opening succeeded.
 
+use crate::cases::{data, opening, syn, NEXT};
 use crate::connection::Opening;
 use crate::script::Call;
 
-use super::calls::{data, opening, syn, CallList, NEXT};
+use super::calls::CallList;
 
 pub fn add(calls: &mut CallList) {
     calls.arrive(&data(NEXT, 1));

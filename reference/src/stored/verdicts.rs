@@ -1,11 +1,12 @@
 //! The verdicts 21 to 30 and E8, both sides of each and in their order.
 
 use crate::builder::SegmentBuilder;
+use crate::cases::{data, opening, stamped, syn, CLOCK, NEXT, RECENT, UNA};
 use crate::connection::{Opening, OUTDATED_AFTER};
 use crate::segment::{ACK, FIN, RST, SYN};
-use crate::serial::{Seq, Stamp};
+use crate::serial::{Seq, Stamp, HALF};
 
-use super::calls::{data, opening, stamped, syn, CallList, CLOCK, HALF, NEXT, RECENT, UNA};
+use super::calls::CallList;
 
 pub fn add(calls: &mut CallList) {
     clock_went_back(calls);

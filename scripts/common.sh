@@ -1,6 +1,6 @@
-# For the scripts of this repository, which source it: a command that is missing is installed from Debian's packages.
+# For the scripts of this repository, which source it.
 
-# need COMMAND PACKAGE..: ends the script with a clear error where the command cannot be had.
+# need COMMAND PACKAGE..: a command that is missing is installed from Debian's packages; ends the script where it cannot be had.
 need() {
     local command=$1
     shift
@@ -26,6 +26,16 @@ need() {
 need_toolchain() {
     if ! command -v rt >/dev/null; then
         echo "error: rt, the command of the Rattle toolchain, is not on the PATH" >&2
+        exit 2
+    fi
+}
+
+# quietly COMMAND..: what the command prints is shown, on standard error, only where it fails; that ends the script.
+quietly() {
+    local printed
+    if ! printed=$("$@" 2>&1); then
+        printf '%s\n' "$printed" >&2
+        echo "error: $* failed" >&2
         exit 2
     fi
 }
