@@ -1,6 +1,7 @@
 // Big-endian numbers in a slice of octets, read and written at any place.
 ghost use mathlib.Core.Path.{_≡_};
-ghost use lib.ListN.{getD, set};
+ghost use Prim.Native.Nat.{_+_, _*_, _≤_};
+ghost use lib.ListN.{getD, length, set};
 ghost use lib.Seq.{sets};
 ghost use Rattle.octets.specs.Octets.{bigEndian, numberAt};
 
@@ -16,23 +17,38 @@ pub fn read_u16(octets: &[u8], at: usize) -> u16
     ensures { λ r. ⌜ r ≡ numberAt 2 (now (octets .entry)) at ⌝ }
 {
     if at < octets.len() {
-        (read_u8(octets, at) as u16) * 256 + (read_u8(octets, at + 1) as u16)
-    } else {
-        0
+        if 1 < octets.len() - at {
+            return load_u16(octets, at);
+        }
+        return (read_u8(octets, at) as u16) * 256;
     }
+    0
 }
 
 pub fn read_u32(octets: &[u8], at: usize) -> u32
     ensures { λ r. ⌜ r ≡ numberAt 4 (now (octets .entry)) at ⌝ }
 {
     if at < octets.len() {
-        let high = read_u16(octets, at) as u32;
-        if 2 < octets.len() - at {
-            return high * 65536 + (read_u16(octets, at + 2) as u32);
+        if 3 < octets.len() - at {
+            return joined(load_u16(octets, at), load_u16(octets, at + 2));
         }
-        return high * 65536;
+        return joined(read_u16(octets, at), read_u16(octets, at + 2));
     }
     0
+}
+
+// Both octets lie within: with no test between them, the compiler makes one load.
+fn load_u16(octets: &[u8], at: usize) -> u16
+    requires { ⌜ at + 2 ≤ length (now octets) ⌝ }
+    ensures { λ r. ⌜ r ≡ numberAt 2 (now (octets .entry)) at ⌝ }
+{
+    (octets[at] as u16) * 256 + (octets[at + 1] as u16)
+}
+
+fn joined(high: u16, low: u16) -> u32
+    ensures { λ r. ⌜ r ≡ high * 65536 + low ⌝ }
+{
+    (high as u32) * 65536 + (low as u32)
 }
 
 // Each of these writes the octets that lie within the slice, and leaves out those past its end.
