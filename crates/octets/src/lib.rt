@@ -20,7 +20,8 @@ pub fn read_u16(octets: &[u8], at: usize) -> u16
         if 1 < octets.len() - at {
             return load_u16(octets, at);
         }
-        return (read_u8(octets, at) as u16) * 256;
+        // the last octet, placed by the length: placed by `at`, the compiler would load it first in both cases
+        return (read_u8(octets, octets.len() - 1) as u16) * 256;
     }
     0
 }

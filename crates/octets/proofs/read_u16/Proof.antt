@@ -1,8 +1,8 @@
 -- Both octets, or the high one alone where the low one is past the end. Assumes nothing.
-use mathlib.Core.Path.{sym}
-use Prim.Native.Nat.{_+_}
+use mathlib.Core.Path.{_≡_, sym}
+use Prim.Native.Nat.{_+_, _-_}
 use native.Mathlib.Omega.{arith}
-use lib.ListN.{List·getD-eq-default}
+use lib.ListN.{length, List·getD-eq-default}
 use denote.Ref.{now}
 use borrow.Author.Needs.{needs}
 use Rattle.octets.proofs.Parts.{read-octets}
@@ -19,6 +19,9 @@ load-u16-requires c κs = search needs
 returns : tie.Need-returns
 returns c = search needs
 
+sub-read-u8 : tie.Need-sub-read-u8
+sub-read-u8 c = search needs
+
 read-u8-requires : tie.Need-read-u8-requires
 read-u8-requires c κs = search needs
 
@@ -31,8 +34,11 @@ mul-result c = search needs
 returns-2 : tie.Need-returns-2
 returns-2 c =
     let a = c .before .before .before .before .args in
-    let low = List·getD-eq-default (now (a .octets)) 0 {n = a .at + 1} (omega arith) in
-    omega (arith, c .read-u8 .ensures, read-octets (now (a .octets)) (a .at), low)
+    let l = now (a .octets) in
+    let last : length l - 1 ≡ a .at = omega arith in
+    let high = rw last at (c .read-u8 .ensures) in
+    let low = List·getD-eq-default l 0 {n = a .at + 1} (omega arith) in
+    omega (arith, high, read-octets l (a .at), low)
 
 returns-3 : tie.Need-returns-3
 returns-3 c =
@@ -46,6 +52,7 @@ read-u16-spec =
     sub-if2
     load-u16-requires
     returns
+    sub-read-u8
     read-u8-requires
     cast-result
     mul-result
