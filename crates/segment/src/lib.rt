@@ -193,7 +193,8 @@ pub fn read(segment: &[u8]) -> Reading
             let options = values::options(segment, places);
             Reading::Segment(fixed_header::fields(segment, end, options))
         }
-        Listing::Refused(why) => Reading::Refused(why),
+        // Returned at once, so that the fields of a segment are stored as they are read.
+        Listing::Refused(why) => return Reading::Refused(why),
     }
 }
 

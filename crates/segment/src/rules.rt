@@ -59,7 +59,13 @@ fn option_rule(header: &[u8], at: usize, prior: Places) -> Listing
     if is_repeated(kind, prior) {
         return Listing::Refused(Refusal::RepeatedOption);
     }
-    padding_rule(header, at + n, with_place(prior, kind, at as u8))
+    let places = with_place(prior, kind, at as u8);
+    let next = at + n;
+    // Where the header ends with this option, nothing is left for the padding rule.
+    if header.len() <= next {
+        return Listing::Listed(places);
+    }
+    padding_rule(header, next, places)
 }
 
 // E4: the option at the start of `left` has no length octet, a length under 2, or one past the end.

@@ -103,6 +103,15 @@ enum-known-listing-2 c = search needs
 
 returns-5 : tie.Need-returns-5
 returns-5 c =
+    let p = c .before .before .before in
+    let s = now (c .before .before .before .before .before .before .before .before .before .before .before .before .args .segment) in
+    let why = c .before .listing2 .given .0 .0 in
+    let o = subst (Outcome [] (stepsOf s)) (c .before .listing2 .given .1) (outcome p) in
+    let k = passed (p .before .before .before) in
+    sym (refused-if s k why o)
+
+returns-6 : tie.Need-returns-6
+returns-6 c =
     let p = c .before .before .before .before .before in
     let s = now (c .before .before .before .before .before .before .before .before .before .before .before .before .before .before .args .segment) in
     let o = subst (Outcome [] (stepsOf s)) (c .before .before .before .listing .given .1) (outcome p) in
@@ -110,15 +119,6 @@ returns-5 c =
     let options = c .before .options .ensures (stepsOf s) (o .1) (stand-all s (k .offset-least) (o .0)) in
     let end = p .before .before .before .before .before .end .ensures .0 in
     ap readAs (c .fields .ensures ∙ (λ i. segmentOf s (end i) (options i))) ∙ sym (read-if s k (o .0))
-
-returns-6 : tie.Need-returns-6
-returns-6 c =
-    let p = c .before .before .before in
-    let s = now (c .before .before .before .before .before .before .before .before .before .before .before .before .args .segment) in
-    let why = c .before .listing2 .given .0 .0 in
-    let o = subst (Outcome [] (stepsOf s)) (c .before .listing2 .given .1) (outcome p) in
-    let k = passed (p .before .before .before) in
-    sym (refused-if s k why o)
 
 pub read-spec : {M : Type 1} → statement M
 read-spec =

@@ -10,9 +10,9 @@ use denote.Ref.{now}
 use borrow.Author.Needs.{needs}
 use borrow.Fn.Kinds.{In}
 use borrow.Fn.PlainCycle.{Measures, is, falls, and}
-use Rattle.segment.specs.Grammar.{Step, isBroken, paddingRule, whole}
+use Rattle.segment.specs.Grammar.{Step, isBroken, optionRule, paddingRule, whole}
 use Rattle.segment.specs.Options.{isWrongLength}
-use Rattle.segment.specs.Internal.{Outcome}
+use Rattle.segment.specs.Internal.{Noted, Outcome}
 use Rattle.segment.specs.declared.rules.Listing.{Listing}
 use Rattle.segment.proofs.ByOctet.{kind-kept, octets-least, octets-most, to-the-end}
 use Rattle.segment.proofs.Outcomes.{at-broken, at-end, at-nop, at-option, at-past, at-repeated, at-whole, at-wrong}
@@ -142,33 +142,45 @@ option-rule-returns-3 t c = λ before p.
     let repeated = sym (c .before .is-repeated .ensures before p) ∙ c .if3 .taken in
     at-repeated before (now (a .header)) (a .at) (unbroken t (c .before .before .before .before .before .before)) (right-length t (c .before .before)) repeated
 
-option-rule-add-padding-rule : (t : ℕ) → option-rule-lts.Need-add-padding-rule (option-claims t) (option-rule-at t) option-rule.Post
-option-rule-add-padding-rule t c = omega (arith, fits t (c .before .before .before .before .before .before), c .before .before .before .before .before .before .before .before .before .before .pre .1)
-
 option-rule-cast-with-place : (t : ℕ) → option-rule-lts.Need-cast-with-place (option-claims t) (option-rule-at t) option-rule.Post
 option-rule-cast-with-place t c = omega (arith, c .before .before .before .before .before .before .before .before .before .before .pre .1)
 
 option-rule-with-place-requires : (t : ℕ) → option-rule-lts.Need-with-place-requires (option-claims t) (option-rule-at t) option-rule.Post
 option-rule-with-place-requires t c κs = search needs
 
-option-rule-padding-rule-requires : (t : ℕ) → option-rule-lts.Need-padding-rule-requires (option-claims t) (option-rule-at t) option-rule.Post
-option-rule-padding-rule-requires t c κs =
-    let pre = c .before .before .before .before .before .before .before .before .before .before .before .pre in
-    let there = fits t (c .before .before .before .before .before .before .before) in
-    (omega (arith, there, pre .0), (omega (arith, there), pre .1 .2))
+option-rule-add-next : (t : ℕ) → option-rule-lts.Need-add-next (option-claims t) (option-rule-at t) option-rule.Post
+option-rule-add-next t c = omega (arith, fits t (c .before .before .before .before .before .before .before), c .before .before .before .before .before .before .before .before .before .before .before .pre .1)
 
-option-rule-returns-4 : (t : ℕ) → option-rule-lts.Need-returns-4 (option-claims t) (option-rule-at t) option-rule.Post
-option-rule-returns-4 t c = λ before p.
-    let s = c .before .before in
-    let a = c .before .before .before .before .before .before .before .before .before .before .before .before .args in
+-- an outcome on the octets after the option, whose place is noted, is one on the option too
+with-option : (t : ℕ) (c : option-rule-lts.After-with-place (option-claims t) (option-rule-at t) option-rule.Post)
+    → let a = c .before .before .before .before .before .before .before .before .before .before .before .args in
     let header = now (a .header) in
-    let n = getD header (a .at + 1) 0 in
-    let octets = take n (drop (a .at) header) in
+    let next = a .at + getD header (a .at + 1) 0 in
+    (r : Listing) → ((before : List Step) → Noted before (c .with-place .result) → Outcome before (paddingRule next (drop next header)) r)
+    → (before : List Step) → Noted before (a .prior) → Outcome before (optionRule (a .at) (drop (a .at) header)) r
+with-option t c r after before p =
+    let s = c .before in
+    let a = s .before .before .before .before .before .before .before .before .before .before .args in
+    let header = now (a .header) in
+    let octets = take (getD header (a .at + 1) 0) (drop (a .at) header) in
     let there = unbroken t (s .before .before .before .before .before .before) in
     let new = sym (s .before .is-repeated .ensures before p) ∙ s .if3 .left in
-    let noted = c .before .with-place .ensures before octets p (kind-kept header (a .at) there) new in
-    at-whole before header (a .at) there (right-length t (s .before .before)) new (c .padding-rule .result)
-    (c .padding-rule .ensures (before ++ (whole (a .at) octets ∷ [])) noted)
+    let noted = c .with-place .ensures before octets p (kind-kept header (a .at) there) new in
+    at-whole before header (a .at) there (right-length t (s .before .before)) new r (after (before ++ (whole (a .at) octets ∷ [])) noted)
+
+option-rule-returns-4 : (t : ℕ) → option-rule-lts.Need-returns-4 (option-claims t) (option-rule-at t) option-rule.Post
+option-rule-returns-4 t c =
+    let places = c .before .with-place .result in
+    with-option t (c .before) (Listing.Listed places) λ before p. at-past before _ _ (c .if4 .taken) places p
+
+option-rule-padding-rule-requires : (t : ℕ) → option-rule-lts.Need-padding-rule-requires (option-claims t) (option-rule-at t) option-rule.Post
+option-rule-padding-rule-requires t c κs =
+    let pre = c .before .before .before .before .before .before .before .before .before .before .before .before .pre in
+    let there = fits t (c .before .before .before .before .before .before .before .before) in
+    (omega (arith, there, pre .0), (omega (arith, there), pre .1 .2))
+
+option-rule-returns-5 : (t : ℕ) → option-rule-lts.Need-returns-5 (option-claims t) (option-rule-at t) option-rule.Post
+option-rule-returns-5 t c = with-option t (c .before .before) (c .padding-rule .result) (c .padding-rule .ensures)
 
 abbrev padding-rule-Inv-loop : padding-rule-lts.InvT-loop
 padding-rule-Inv-loop header from prior at₀ at =
@@ -240,11 +252,12 @@ pub +option-rule+padding-rule-spec : {M : Type 1} → statement M
     (option-rule-returns-2 t)
     (option-rule-is-repeated-requires t)
     (option-rule-returns-3 t)
-    (option-rule-add-padding-rule t)
     (option-rule-cast-with-place t)
     (option-rule-with-place-requires t)
+    (option-rule-add-next t)
+    (option-rule-returns-4 t)
     (option-rule-padding-rule-requires t)
-    (option-rule-returns-4 t))
+    (option-rule-returns-5 t))
     λ t. padding-rule-lts.spec
     (padding-claims t)
     (padding-rule-at t)
