@@ -32,35 +32,33 @@ static inline bool runs_past(const uint8_t *option, size_t left)
     return left < 2 || option[1] < 2 || option[1] > left;
 }
 
-static inline bool is_known(uint8_t kind)
-{
-    return (kind >= MSS && kind <= SACK) || kind == STAMPS;
-}
-
-static inline bool has_right_length(const uint8_t *option)
-{
-    switch (option[0]) {
-    case MSS:
-        return option[1] == 4;
-    case SCALE:
-        return option[1] == 3;
-    case SACK_PERMITTED:
-        return option[1] == 2;
-    case SACK:
-        return option[1] == 10 || option[1] == 18 || option[1] == 26 || option[1] == 34;
-    default:
-        return option[1] == 10;
-    }
-}
-
 /* `seen` has a bit for each known kind that came before. */
 static inline uint32_t option_refusal(const uint8_t *option, size_t left, uint32_t *seen)
 {
+    bool right;
+
     if (runs_past(option, left))
         return E4;
-    if (!is_known(option[0]))
+    switch (option[0]) {
+    case MSS:
+        right = option[1] == 4;
+        break;
+    case SCALE:
+        right = option[1] == 3;
+        break;
+    case SACK_PERMITTED:
+        right = option[1] == 2;
+        break;
+    case SACK:
+        right = option[1] == 10 || option[1] == 18 || option[1] == 26 || option[1] == 34;
+        break;
+    case STAMPS:
+        right = option[1] == 10;
+        break;
+    default:
         return 0;
-    if (!has_right_length(option))
+    }
+    if (!right)
         return E5;
     if (*seen & 1u << option[0])
         return E6;

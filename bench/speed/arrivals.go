@@ -1,43 +1,18 @@
 package main
 
-// streamFigures has the nanoseconds of one call of a stream, by both programs.
-type streamFigures struct {
-	name               string
-	library, reference float64
-}
+import (
+	"fmt"
 
-// measureStream times both programs on a stream whose calls all must succeed.
-func measureStream(s settings, name string, calls stream) streamFigures {
-	mustAnswer(s, name, calls, 0)
-	p := startPair(s, calls)
-	contest(s.turns, p)
-	p.stop()
-	return streamFigures{name: name, library: p.library.nanoseconds(), reference: p.reference.nanoseconds()}
-}
+	"noppalerk/bench/table"
+)
 
-// How many full segments come in order in a round: what the window takes, and below the ranges that are held.
+// How many full segments come in order in a round: as many as the window takes, or as lie below the ranges that are held.
 const (
 	fullWindow  = ourWindow / usualLength
 	belowRanges = 40
 )
 
 const mostRanges = 8
-
-// The usual segment of a bulk receiver: data in order, and nothing new acknowledged.
-func measureUsual(s settings) streamFigures {
-	return measureStream(s, "in order (the usual segment)", ofArrivals(nil, inOrder(fullWindow, usualLength)))
-}
-
-func measureOtherArrivals(s settings) []streamFigures {
-	return []streamFigures{
-		measureStream(s, "in order, each acknowledges new octets (a sample for the timer)",
-			ofArrivals(nil, acknowledging(inOrder(fullWindow, usualLength)))),
-		measureStream(s, "in order, with three SACK blocks from the peer",
-			ofArrivals(nil, sacking(inOrder(fullWindow, usualLength)))),
-		measureStream(s, "in order, eight ranges held", inOrderHolding(mostRanges)),
-		measureStream(s, "out of order, eight ranges held, each extends the oldest", outOfOrder(mostRanges)),
-	}
-}
 
 func inOrderHolding(ranges int) stream {
 	return ofArrivals(held(ranges), inOrder(belowRanges, usualLength))
@@ -47,15 +22,38 @@ func outOfOrder(ranges int) stream {
 	return ofArrivals(spread(ranges), extending(ranges, belowRanges, usualLength))
 }
 
-func measureAcknowledgment(s settings, name string, ranges int) streamFigures {
-	const count = 64
-	return measureStream(s, name, acknowledgments(ranges, count))
+// newArrivalRows has the usual segment of a bulk receiver first: data in order, and nothing new acknowledged.
+func newArrivalRows(s settings) []*streamRow {
+	return []*streamRow{
+		newStreamRow(s, "in order (the usual segment)", 0,
+			ofArrivals(nil, inOrder(fullWindow, usualLength))),
+		newStreamRow(s, "in order, each acknowledges new octets (a sample for the timer)", 0,
+			ofArrivals(nil, acknowledging(inOrder(fullWindow, usualLength)))),
+		newStreamRow(s, "in order, with three SACK blocks from the peer", 0,
+			ofArrivals(nil, sacking(inOrder(fullWindow, usualLength)))),
+		newStreamRow(s, "in order, eight ranges held", 0, inOrderHolding(mostRanges)),
+		newStreamRow(s, "out of order, eight ranges held, each extends the oldest", 0, outOfOrder(mostRanges)),
+	}
 }
 
-func streamTable(title, first, note string, all []streamFigures) table {
-	t := table{title: title, columns: []string{first, "library, ns", "Rust reference / library"}, note: note}
-	for _, f := range all {
-		t.add(f.name, nanoseconds(f.library), ratio(f.reference, f.library))
+func newAcknowledgmentRow(s settings, ranges int) *streamRow {
+	const count = 64
+	return newStreamRow(s, fmt.Sprintf("timestamps, %d ranges held", ranges), 0, acknowledgments(ranges, count))
+}
+
+func streamTable(title, first, note string, rows []*streamRow) *table.Table {
+	t := table.New(title, note, table.Text(first), table.Number("library, ns"), table.Number("Rust / library"))
+	for _, r := range rows {
+		t.Add(append([]string{r.name}, r.cells()...)...)
 	}
 	return t
+}
+
+func (r *streamRow) cells() []string {
+	return []string{nanoseconds(r.libraryNs()), ratio(r.referenceNs(), r.libraryNs())}
+}
+
+func arrivalTable(rows []*streamRow) *table.Table {
+	note := fmt.Sprintf("Segments of %d octets of payload with NOP NOP timestamps; reading, verdict and taking.", usualLength)
+	return streamTable("A whole arrival", "arrival", note, rows)
 }

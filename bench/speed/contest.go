@@ -1,7 +1,14 @@
 package main
 
+// A row of a table is measured in several passes, so that a while in which the machine was busy spoils no row.
+type row interface {
+	pass(s settings)
+}
+
 // A contestant is timed in short runs; what counts is the least of them, a run that nothing disturbed.
-type contestant interface{ run() }
+type contestant interface {
+	run()
+}
 
 // contest lets the contestants run in turn, so that all of them see the same machine.
 func contest(turns int, contestants ...contestant) {

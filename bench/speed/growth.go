@@ -3,76 +3,99 @@ package main
 import (
 	"fmt"
 
-	"noppalerk/bench/readers"
 	"noppalerk/bench/segment"
+	"noppalerk/bench/table"
 )
 
-// lengthTable: one arrival a round, since no second one of 65,000 octets fits in the window; so a round's own cost is in every row.
-func lengthTable(s settings) table {
-	var all []streamFigures
+// newLengthRows: a round is one arrival, so that every length has rounds of the same size.
+func newLengthRows(s settings) []*streamRow {
+	var rows []*streamRow
 	for _, length := range []int{0, 100, 536, usualLength, 8_948, 65_000} {
-		all = append(all, measureStream(s, fmt.Sprint(length), ofArrivals(nil, inOrder(1, length))))
+		rows = append(rows, newStreamRow(s, fmt.Sprint(length), 0, ofArrivals(nil, inOrder(1, length))))
 	}
-	note := "A round is one arrival here, since a second one of 65,000 octets would not fit in the window; the cost of starting a round is in each row."
-	return streamTable("How cost grows: the payload of an arrival in order", "octets of payload", note, all)
+	return rows
 }
 
-// optionCounts are rows of so many options of one sort.
-var optionCounts = []struct {
-	sort   string
-	write  func(count int) []byte
-	counts []int
-}{
-	{"unknown options of two octets", segment.Unknown, []int{0, 1, 5, 10, 20}},
-	{"NOPs", segment.NOPs, []int{0, 10, 20, 40}},
+func lengthTable(rows []*streamRow) *table.Table {
+	const note = "A round is one arrival here, since no second one of 65,000 octets fits in the window; what a round itself costs is in every row."
+	return streamTable("How cost grows: the payload of an arrival in order", "octets of payload", note, rows)
 }
 
-func optionTable(s settings) table {
-	t := table{
-		title:   "How cost grows: the number of options, by the refusal number",
-		columns: []string{"options", "library, ns", "C reader / library"},
-		note:    "Lists are filled up to a multiple of four octets with end-of-list.",
+// newOptionRows have so many options of one sort, judged by the refusal number.
+func newOptionRows() []*refusalRow {
+	var rows []*refusalRow
+	for _, count := range []int{0, 1, 5, 10, 20} {
+		rows = append(rows, newOptionRow(fmt.Sprintf("%d unknown options of two octets", count), segment.Unknown(count)))
 	}
-	for _, growth := range optionCounts {
-		for _, count := range growth.counts {
-			ours, c := measureRefusal(s, padded(growth.write(count)))
-			t.add(fmt.Sprintf("%d %s", count, growth.sort), nanoseconds(ours), ratio(c, ours))
-		}
+	for _, count := range []int{10, 20, 40} {
+		rows = append(rows, newOptionRow(fmt.Sprintf("%d NOPs", count), segment.NOPs(count)))
 	}
-	return t
+	return rows
 }
 
-// measureRefusal times the library and the C reader on segments with these options.
-func measureRefusal(s settings, options []byte) (ours, c float64) {
-	row := readingCase{name: "growth", flags: segment.ACK, options: fixed(options)}
-	set := row.set()
-	mustSumAlike(row, set)
-	library, reader := newCLoop(readers.LibraryRefusal, set), newCLoop(readers.CRefusal, set)
-	contest(s.turns, library, reader)
-	return library.nanoseconds(), reader.nanoseconds()
+func newOptionRow(name string, options []byte) *refusalRow {
+	return newRefusalRow(readingCase{name: name, flags: segment.ACK, options: fixed(padded(options))})
 }
 
-func rangesTable(s settings) table {
-	t := table{
-		title: "How cost grows: the ranges held",
-		columns: []string{"ranges held", "in order, ns", "Rust / library", "out of order, ns", "Rust / library",
-			"acknowledgment, ns", "Rust / library"},
-		note: "In order: none of the ranges is reached. Out of order: each arrival extends the range that was extended longest ago.\n" +
-			"An acknowledgment has three of the ranges at most.",
-	}
-	for _, ranges := range []int{0, 1, 2, 4, 8} {
-		row := []string{fmt.Sprint(ranges)}
-		row = append(row, both(measureStream(s, "in order", inOrderHolding(ranges)))...)
-		if ranges == 0 {
-			row = append(row, "-", "-")
-		} else {
-			row = append(row, both(measureStream(s, "out of order", outOfOrder(ranges)))...)
-		}
-		t.add(append(row, both(measureAcknowledgment(s, "acknowledgment", ranges))...)...)
+func optionTable(rows []*refusalRow) *table.Table {
+	t := table.New("How cost grows: the number of options, by the refusal number",
+		"Lists are filled up to a multiple of four octets with end-of-list.",
+		table.Text("options"), table.Number("library, ns"), table.Number("C reader / library"))
+	for _, r := range rows {
+		ours := r.library.nanoseconds()
+		t.Add(r.name, nanoseconds(ours), ratio(r.c.nanoseconds(), ours))
 	}
 	return t
 }
 
-func both(f streamFigures) []string {
-	return []string{nanoseconds(f.library), ratio(f.reference, f.library)}
+// A rangesRow has the three streams of a record that holds so many ranges; out of order, there is one range at least.
+type rangesRow struct {
+	ranges                              int
+	inOrder, outOfOrder, acknowledgment *streamRow
+}
+
+func newRangesRows(s settings) []*rangesRow {
+	var rows []*rangesRow
+	for _, ranges := range []int{0, 1, 2, 4, mostRanges} {
+		r := &rangesRow{
+			ranges:         ranges,
+			inOrder:        newStreamRow(s, "in order", 0, inOrderHolding(ranges)),
+			acknowledgment: newAcknowledgmentRow(s, ranges),
+		}
+		if ranges > 0 {
+			r.outOfOrder = newStreamRow(s, "out of order", 0, outOfOrder(ranges))
+		}
+		rows = append(rows, r)
+	}
+	return rows
+}
+
+func (r *rangesRow) pass(s settings) {
+	r.inOrder.pass(s)
+	if r.outOfOrder != nil {
+		r.outOfOrder.pass(s)
+	}
+	r.acknowledgment.pass(s)
+}
+
+func (r *rangesRow) cells() []string {
+	outOfOrder := []string{"-", "-"}
+	if r.outOfOrder != nil {
+		outOfOrder = r.outOfOrder.cells()
+	}
+	cells := append([]string{fmt.Sprint(r.ranges)}, r.inOrder.cells()...)
+	return append(append(cells, outOfOrder...), r.acknowledgment.cells()...)
+}
+
+func rangesTable(rows []*rangesRow) *table.Table {
+	const note = "In order: none of the ranges is reached. Out of order: each arrival extends the range that was extended longest ago.\n" +
+		"An acknowledgment has three of the ranges at most."
+	t := table.New("How cost grows: the ranges held", note,
+		table.Text("ranges held"), table.Number("in order, ns"), table.Number("Rust / library"),
+		table.Number("out of order, ns"), table.Number("Rust / library"),
+		table.Number("acknowledgment, ns"), table.Number("Rust / library"))
+	for _, r := range rows {
+		t.Add(r.cells()...)
+	}
+	return t
 }

@@ -10,7 +10,7 @@ import (
 
 // settings has what the command line says.
 type settings struct {
-	turns              int // short runs of each contestant
+	passes, turns      int // a contestant has so many short runs in each pass
 	library, reference []string
 	replay             string
 }
@@ -19,21 +19,39 @@ func main() {
 	s := arguments()
 	runtime.LockOSThread()
 
-	readings := measureAllReading(s)
-	refusalTable(readings).print()
-	fieldsTable(readings).print()
+	readings := newReadingRows(s)
+	arrivals := newArrivalRows(s)
+	acknowledgment := newAcknowledgmentRow(s, 3)
+	lengths, options, ranges := newLengthRows(s), newOptionRows(), newRangesRows(s)
+	measure(s, rowsOf(readings), rowsOf(arrivals), []row{acknowledgment}, rowsOf(lengths), rowsOf(options), rowsOf(ranges))
 
-	usual := measureUsual(s)
-	arrivals := append([]streamFigures{usual}, measureOtherArrivals(s)...)
-	note := fmt.Sprintf("Segments of %d octets of payload with NOP NOP timestamps; reading, verdict and taking.", usualLength)
-	streamTable("A whole arrival", "arrival", note, arrivals).print()
-	acknowledgment := measureAcknowledgment(s, "timestamps and three ranges", 3)
-	streamTable("Writing an acknowledgment", "acknowledgment", "", []streamFigures{acknowledgment}).print()
+	refusalTable(readings).Print()
+	fieldsTable(readings).Print()
+	arrivalTable(arrivals).Print()
+	streamTable("Writing an acknowledgment", "acknowledgment", "", []*streamRow{acknowledgment}).Print()
+	lengthTable(lengths).Print()
+	optionTable(options).Print()
+	rangesTable(ranges).Print()
+	printGoals(arrivals[0], readings)
+}
 
-	lengthTable(s).print()
-	optionTable(s).print()
-	rangesTable(s).print()
-	printGoals(usual, readings)
+// measure goes through all rows once in each pass.
+func measure(s settings, parts ...[]row) {
+	for i := 0; i < s.passes; i++ {
+		for _, rows := range parts {
+			for _, r := range rows {
+				r.pass(s)
+			}
+		}
+	}
+}
+
+func rowsOf[R row](some []R) []row {
+	rows := make([]row, len(some))
+	for i, one := range some {
+		rows[i] = one
+	}
+	return rows
 }
 
 func arguments() settings {
@@ -42,12 +60,17 @@ func arguments() settings {
 	reference := flag.String("reference", "reference/target/release/reference", "the reference")
 	replay := flag.String("replay", "target/bin/replay", "the replay program")
 	flag.Parse()
-	turns := 500
+	s := settings{passes: 10, turns: 50, library: []string{*library}, reference: []string{*reference, "bench"}, replay: *replay}
 	if *quick {
-		turns = 20
+		s.passes, s.turns = 2, 5
 	}
-	return settings{turns: turns, library: []string{*library}, reference: []string{*reference, "bench"}, replay: *replay}
+	return s
 }
+
+func nanoseconds(value float64) string { return fmt.Sprintf("%.1f", value) }
+
+// ratio says how many times ours another takes: above 1, the library is the faster one.
+func ratio(other, ours float64) string { return fmt.Sprintf("%.2f", other/ours) }
 
 func fail(format string, values ...any) {
 	fmt.Fprintf(os.Stderr, "error: "+format+"\n", values...)

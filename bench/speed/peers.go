@@ -1,8 +1,6 @@
 package main
 
 import (
-	"time"
-
 	"github.com/google/gopacket"
 	"github.com/google/gopacket/layers"
 	"gvisor.dev/gvisor/pkg/tcpip/header"
@@ -10,42 +8,49 @@ import (
 	"noppalerk/bench/segment"
 )
 
-// What the loops read is kept, so that no call can be left out.
-var kept uint32
-
-// timed gives the nanoseconds of so many rounds.
-func timed(rounds int, round func()) float64 {
-	start := time.Now()
-	for i := 0; i < rounds; i++ {
-		round()
-	}
-	return float64(time.Since(start).Nanoseconds())
-}
-
-// gvisorRound reads each segment's header fields, and its options by gVisor's reader for what it is.
-func gvisorRound(set segment.Set, isSYN bool) {
+// gvisorRound reads each segment's header and options by gVisor's readers, as its endpoint does for an established connection.
+func gvisorRound(set segment.Set) (sum uint64) {
 	for i := 0; i < set.Count; i++ {
 		tcp := header.TCP(set.Segment(i))
-		if offset := int(tcp.DataOffset()); offset < header.TCPMinimumSize || offset > len(tcp) {
+		if !isWhole(tcp) {
 			continue
 		}
-		kept += uint32(tcp.SourcePort()) + uint32(tcp.DestinationPort()) + tcp.SequenceNumber() + tcp.AckNumber()
-		kept += uint32(tcp.Flags()) + uint32(tcp.WindowSize())
-		if isSYN {
-			options := header.ParseSynOptions(tcp.Options(), true)
-			kept += uint32(options.MSS) + uint32(options.WS) + options.TSVal + options.TSEcr
-		} else {
-			options := header.ParseTCPOptions(tcp.Options())
-			kept += options.TSVal + options.TSEcr + uint32(len(options.SACKBlocks))
-		}
+		options := header.ParseTCPOptions(tcp.Options())
+		sum += headerSum(tcp) + uint64(options.TSVal) + uint64(options.TSEcr) + uint64(len(options.SACKBlocks))
 	}
+	return sum
+}
+
+// gvisorSYNRound is the same for segments that open a connection, whose options gVisor reads by a function of their own.
+func gvisorSYNRound(set segment.Set) (sum uint64) {
+	for i := 0; i < set.Count; i++ {
+		tcp := header.TCP(set.Segment(i))
+		if !isWhole(tcp) {
+			continue
+		}
+		options := header.ParseSynOptions(tcp.Options(), true)
+		sum += headerSum(tcp) + uint64(options.MSS) + uint64(options.WS) + uint64(options.TSVal) + uint64(options.TSEcr)
+	}
+	return sum
+}
+
+// isWhole is the check that gVisor leaves to the caller of Options.
+func isWhole(tcp header.TCP) bool {
+	offset := int(tcp.DataOffset())
+	return offset >= header.TCPMinimumSize && offset <= len(tcp)
+}
+
+func headerSum(tcp header.TCP) uint64 {
+	return uint64(tcp.SourcePort()) + uint64(tcp.DestinationPort()) + uint64(tcp.SequenceNumber()) + uint64(tcp.AckNumber()) +
+		uint64(tcp.Flags()) + uint64(tcp.WindowSize())
 }
 
 // gopacketRound decodes each segment into the same layer, which keeps its list of options between calls.
-func gopacketRound(set segment.Set, tcp *layers.TCP) {
+func gopacketRound(set segment.Set, tcp *layers.TCP) (sum uint64) {
 	for i := 0; i < set.Count; i++ {
 		if tcp.DecodeFromBytes(set.Segment(i), gopacket.NilDecodeFeedback) == nil {
-			kept += tcp.Seq + uint32(len(tcp.Options))
+			sum += uint64(tcp.Seq) + uint64(len(tcp.Options))
 		}
 	}
+	return sum
 }

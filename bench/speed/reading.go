@@ -1,59 +1,29 @@
 package main
 
 import (
-	"github.com/google/gopacket/layers"
+	"fmt"
 
 	"noppalerk/bench/readers"
 	"noppalerk/bench/segment"
+	"noppalerk/bench/table"
 )
 
-// How often a short run of a loop reads its set.
-const roundsOfRun = 16
-
-// readingFigures has the nanoseconds of every reader on one case.
-type readingFigures struct {
-	name                         string
-	libraryRefusal, cRefusal     float64
-	libraryFields, cFields       float64
-	rustFields                   float64
-	lwip, gvisor, gopacketFigure float64
+// A refusalRow is a case that the library and the C reader judge, both from a loop in C.
+type refusalRow struct {
+	name       string
+	library, c *loop
 }
 
-// measureReading times all readers on a case in one contest.
-func measureReading(s settings, c readingCase) readingFigures {
+func newRefusalRow(c readingCase) *refusalRow {
 	set := c.set()
-	calls := reading(set)
-	mustAnswer(s, c.name, calls, c.refusal)
-	mustSumAlike(c, set)
-
-	libraryRefusal, cRefusal := newCLoop(readers.LibraryRefusal, set), newCLoop(readers.CRefusal, set)
-	cFields, lwip := newCLoop(readers.CFields, set), newCLoop(readers.LwIP, set)
-	gvisor := newGoLoop(set, func() { gvisorRound(set, c.isSYN()) })
-	var layer layers.TCP
-	gopacket := newGoLoop(set, func() { gopacketRound(set, &layer) })
-	streams := startPair(s, calls)
-	contest(s.turns, libraryRefusal, cRefusal, cFields, lwip, gvisor, gopacket, streams)
-	streams.stop()
-
-	return readingFigures{
-		name:           c.name,
-		libraryRefusal: libraryRefusal.nanoseconds(), cRefusal: cRefusal.nanoseconds(),
-		libraryFields: streams.library.nanoseconds(), cFields: cFields.nanoseconds(),
-		rustFields: streams.reference.nanoseconds(),
-		lwip:       lwip.nanoseconds(), gvisor: gvisor.nanoseconds(), gopacketFigure: gopacket.nanoseconds(),
-	}
+	mustRefuse(c, set)
+	return &refusalRow{name: c.name, library: newCLoop(readers.LibraryRefusal, set), c: newCLoop(readers.CRefusal, set)}
 }
 
-func newCLoop(reader readers.Reader, set segment.Set) *loop {
-	return newLoop(roundsOfRun*set.Count, func() float64 { return reader.Run(set, roundsOfRun) })
-}
+func (r *refusalRow) pass(s settings) { contest(s.turns, r.library, r.c) }
 
-func newGoLoop(set segment.Set, round func()) *loop {
-	return newLoop(roundsOfRun*set.Count, func() float64 { return timed(roundsOfRun, round) })
-}
-
-// mustSumAlike holds the C reader to the library: the same refusals on the same segments.
-func mustSumAlike(c readingCase, set segment.Set) {
+// mustRefuse holds the library's C entry and the C reader to the case's number.
+func mustRefuse(c readingCase, set segment.Set) {
 	want := uint64(c.refusal * set.Count)
 	for _, reader := range []readers.Reader{readers.LibraryRefusal, readers.CRefusal} {
 		if sum := reader.Sum(set); sum != want {
@@ -62,40 +32,73 @@ func mustSumAlike(c readingCase, set segment.Set) {
 	}
 }
 
-func measureAllReading(s settings) []readingFigures {
-	var all []readingFigures
-	for _, c := range readingCases {
-		all = append(all, measureReading(s, c))
-	}
-	return all
+// A readingRow is a case that every reader reads.
+type readingRow struct {
+	refusal                 *refusalRow
+	fields                  *streamRow
+	c, lwIP, gVisor, packet *loop
+	sum                     uint64 // of the C reader's fields
 }
 
-func refusalTable(all []readingFigures) table {
-	t := table{
-		title:   "Reading a segment: its refusal number, through the C entry",
-		columns: []string{"segment", "library, ns", "C reader / library", "lwIP / library", "gVisor / library", "gopacket / library"},
-		note: "`noppalerk_refusal` and the C reader's refusal alone, each called from a C loop; the others read their fields.\n" +
-			"Of the damaged list, lwIP and gVisor keep what came before the damage; gopacket makes an error value.",
+func newReadingRow(s settings, c readingCase) *readingRow {
+	set := c.set()
+	return &readingRow{
+		refusal: newRefusalRow(c),
+		fields:  newStreamRow(s, c.name, c.refusal, reading(set)),
+		c:       newCLoop(readers.CFields, set),
+		lwIP:    newCLoop(readers.LwIP, set),
+		gVisor:  newGVisorLoop(set, c.isSYN()),
+		packet:  newGoPacketLoop(set),
+		sum:     readers.CFields.Sum(set),
 	}
-	for _, f := range all {
-		ours := f.libraryRefusal
-		t.add(f.name, nanoseconds(ours), ratio(f.cRefusal, ours), ratio(f.lwip, ours), ratio(f.gvisor, ours), ratio(f.gopacketFigure, ours))
+}
+
+// pass also holds the C reader's fields to those of the programs.
+func (r *readingRow) pass(s settings) {
+	r.fields.passWith(s, r.refusal.library, r.refusal.c, r.c, r.lwIP, r.gVisor, r.packet)
+	if sum := fmt.Sprint(r.sum); sum != r.fields.sum {
+		fail("%s: the C reader's fields add up to %s, and the library's to %s", r.fields.name, sum, r.fields.sum)
+	}
+}
+
+func newReadingRows(s settings) []*readingRow {
+	rows := make([]*readingRow, len(readingCases))
+	for i, c := range readingCases {
+		rows[i] = newReadingRow(s, c)
+	}
+	return rows
+}
+
+func refusalTable(rows []*readingRow) *table.Table {
+	const note = "The library is `noppalerk_refusal` and the C reader its refusal alone, each called from a loop in C. lwIP, gVisor and gopacket\n" +
+		"read the header's fields and the options that they know; on the damaged list lwIP and gVisor keep what came before the damage,\n" +
+		"and gopacket makes an error value."
+	t := table.New("Reading a segment: its refusal number, through the C entry", note,
+		table.Text("segment"), table.Number("library, ns"), table.Number("C reader / library"),
+		table.Number("lwIP / library"), table.Number("gVisor / library"), table.Number("gopacket / library"))
+	for _, r := range rows {
+		ours := r.refusal.library.nanoseconds()
+		t.Add(append([]string{r.refusal.name, nanoseconds(ours), ratio(r.refusal.c.nanoseconds(), ours)}, r.peers(ours)...)...)
 	}
 	return t
 }
 
-func fieldsTable(all []readingFigures) table {
-	t := table{
-		title: "Reading a segment: all fields",
-		columns: []string{"segment", "library, ns", "Rust reference / library", "C reader / library", "lwIP / library",
-			"gVisor / library", "gopacket / library"},
-		note: "The library and the Rust reference add up every field, by the stream programs, and walk the calls of the stream besides;\n" +
-			"the C reader writes every field to a record and adds up the same ones.",
-	}
-	for _, f := range all {
-		ours := f.libraryFields
-		t.add(f.name, nanoseconds(ours), ratio(f.rustFields, ours), ratio(f.cFields, ours), ratio(f.lwip, ours),
-			ratio(f.gvisor, ours), ratio(f.gopacketFigure, ours))
+func fieldsTable(rows []*readingRow) *table.Table {
+	const note = "The library and the Rust reference read and add up every field, by the stream programs, which also walk the stream's calls. The C\n" +
+		"reader writes every field to a record, and its loop adds up the same ones; the sums must be equal. The figures of the other\n" +
+		"columns are those of the table above."
+	t := table.New("Reading a segment: all fields", note,
+		table.Text("segment"), table.Number("library, ns"), table.Number("Rust / library"), table.Number("C reader / library"),
+		table.Number("lwIP / library"), table.Number("gVisor / library"), table.Number("gopacket / library"))
+	for _, r := range rows {
+		ours := r.fields.libraryNs()
+		own := []string{r.fields.name, nanoseconds(ours), ratio(r.fields.referenceNs(), ours), ratio(r.c.nanoseconds(), ours)}
+		t.Add(append(own, r.peers(ours)...)...)
 	}
 	return t
+}
+
+// peers are the ratios that both tables have.
+func (r *readingRow) peers(ours float64) []string {
+	return []string{ratio(r.lwIP.nanoseconds(), ours), ratio(r.gVisor.nanoseconds(), ours), ratio(r.packet.nanoseconds(), ours)}
 }
