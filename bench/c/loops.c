@@ -88,8 +88,10 @@ uint64_t loops_run(enum loops_reader reader, struct loops_set set, size_t rounds
 {
     /* The sum is kept, so that no call can be left out. */
     static volatile uint64_t kept;
-    uint64_t start = now();
+    uint64_t start;
 
+    kept += rounds_of[reader](&set);
+    start = now();
     for (size_t i = 0; i < rounds; i++)
         kept += rounds_of[reader](&set);
     return now() - start;

@@ -13,7 +13,7 @@ struct loops_set {
 
 enum loops_reader { LOOPS_LIBRARY_REFUSAL, LOOPS_C_REFUSAL, LOOPS_C_FIELDS, LOOPS_LWIP };
 
-/* The nanoseconds of `rounds` rounds. */
+/* The nanoseconds of `rounds` rounds, after one that is not timed and warms the caches. */
 uint64_t loops_run(enum loops_reader reader, struct loops_set set, size_t rounds);
 
 /* What one round adds up: refusal numbers, or fields as the stream programs sum them. */

@@ -52,4 +52,5 @@ def main() -> None:
         print(line(octets))
 
 
-main()
+if __name__ == "__main__":
+    main()

@@ -27,7 +27,6 @@ type loop struct {
 }
 
 func newLoop(calls int, once func() float64) *loop {
-	once() // warms code and buffers
 	return &loop{once: once, calls: calls, least: once()}
 }
 

@@ -23,9 +23,9 @@ func lengthTable(rows []*streamRow) *table.Table {
 
 // newOptionRows have so many options of one sort, judged by the refusal number.
 func newOptionRows() []*refusalRow {
-	var rows []*refusalRow
-	for _, count := range []int{0, 1, 5, 10, 20} {
-		rows = append(rows, newOptionRow(fmt.Sprintf("%d unknown options of two octets", count), segment.Unknown(count)))
+	rows := []*refusalRow{newOptionRow("none", nil)}
+	for _, count := range []int{1, 5, 10, 20} {
+		rows = append(rows, newOptionRow(fmt.Sprintf("%d unknown of two octets", count), segment.Unknown(count)))
 	}
 	for _, count := range []int{10, 20, 40} {
 		rows = append(rows, newOptionRow(fmt.Sprintf("%d NOPs", count), segment.NOPs(count)))

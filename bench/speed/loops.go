@@ -10,7 +10,7 @@ import (
 )
 
 // How often a short run reads its set.
-const roundsOfRun = 16
+const roundsOfRun = 32
 
 // newCLoop is a loop in C, timed there.
 func newCLoop(reader readers.Reader, set segment.Set) *loop {
@@ -37,8 +37,9 @@ func newGoPacketLoop(set segment.Set) *loop {
 // What the rounds add up is kept, so that no call can be left out.
 var kept uint64
 
-// timed gives the nanoseconds of one short run.
+// timed gives the nanoseconds of one short run, after a round that is not timed and warms the caches.
 func timed(round func() uint64) float64 {
+	kept += round()
 	start := time.Now()
 	for i := 0; i < roundsOfRun; i++ {
 		kept += round()

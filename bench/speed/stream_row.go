@@ -38,13 +38,22 @@ func (r *streamRow) passWith(s settings, others ...contestant) {
 // enoughRounds is how many make an order long enough to be timed.
 func enoughRounds(p *program) uint32 {
 	const enough = 400 * time.Microsecond
-	for rounds := uint32(1); ; rounds *= 2 {
-		_, taken := p.order(rounds)
-		_, again := p.order(rounds)
-		if taken >= enough && again >= enough {
-			return rounds
+	rounds := uint32(1)
+	for leastOf(10, p, rounds) < enough {
+		rounds *= 2
+	}
+	return rounds
+}
+
+// leastOf gives the least time of some orders: a program that has to wait for a processor is not taken for a slow one.
+func leastOf(orders int, p *program, rounds uint32) time.Duration {
+	least := time.Duration(math.MaxInt64)
+	for i := 0; i < orders; i++ {
+		if _, taken := p.order(rounds); taken < least {
+			least = taken
 		}
 	}
+	return least
 }
 
 // programs are the two at work on a row.
