@@ -13,7 +13,7 @@ scapy_package=python3-scapy
 
 # Functions start at a line of the cache, so that where the linker puts them decides nothing.
 line=64
-release=(-O2 -falign-functions=$line)
+release=(-O2 "-falign-functions=$line")
 
 install_missing() {
     need_toolchain

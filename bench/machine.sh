@@ -16,8 +16,9 @@ print_machine() {
 - compilers: $(rt version); gcc $(gcc -dumpfullversion) \`${release[*]}\`; $(rustc --version), release; $("$go" version | cut -d ' ' -f 3)
 - peers, from Debian's packages: lwIP $(lwip_version), gVisor $(package_version "$gvisor_package"), gopacket $(package_version "$gopacket_package"), scapy $(package_version "$scapy_package")
 
-A ratio says how many times the library's time another takes: above 1.00 the library is the faster one. A figure is the least of many short
-runs, spread over the whole run and alternating between those compared, with warm buffers.
+A figure is the least of many short runs with warm buffers, in turn with those it is compared with and spread over the whole run. A ratio says
+how many times the library's time another takes: above 1.00 the library is the faster one. The readers in C and the library's C entry are linked
+with functions that begin at multiples of $line octets.
 
 EOF
 }

@@ -1,3 +1,5 @@
+// The rules of gopacket and scapy that differ from the library's.
+
 package main
 
 // A class explains differences by one rule: the library's number, what such a segment has, and what the peer does with it.

@@ -1,3 +1,5 @@
+// The comparison of two readers' lines, and its tables.
+
 package main
 
 import (

@@ -1,3 +1,5 @@
+// What a segment has that readers treat differently, told from its octets alone.
+
 package main
 
 import "noppalerk/bench/segment"

@@ -1,3 +1,5 @@
+// What gopacket reads of segments.
+
 package main
 
 import (

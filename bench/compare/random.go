@@ -1,3 +1,5 @@
+// Random segments, good and damaged.
+
 package main
 
 import (

@@ -1,3 +1,5 @@
+// What the library, the C reader and scapy read of segments, as lines of the replay program's form.
+
 package main
 
 import (
@@ -10,8 +12,6 @@ import (
 	"noppalerk/bench/readers"
 	"noppalerk/bench/segment"
 )
-
-// Every reader answers a line for each segment, in the form of the replay program's: `read`, the number, and at 0 all fields.
 
 func readByLibrary(replay string, segments [][]byte) []string {
 	var calls bytes.Buffer

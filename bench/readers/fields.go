@@ -1,3 +1,5 @@
+// The C reader, called for one segment.
+
 package readers
 
 // #include "reader.h"

@@ -1,3 +1,5 @@
+// The calls of docs/REPLAY.md that the streams and the comparison make.
+
 package segment
 
 import "encoding/binary"

@@ -1,3 +1,5 @@
+// What is read of a segment, and the line that the replay program writes of it.
+
 package segment
 
 import (

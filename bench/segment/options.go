@@ -1,3 +1,5 @@
+// The options of a segment.
+
 package segment
 
 import (

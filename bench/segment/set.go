@@ -1,3 +1,5 @@
+// Segments side by side.
+
 package segment
 
 // Set has segments of one length side by side in one buffer, for the timed loops.

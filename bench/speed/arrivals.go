@@ -1,3 +1,5 @@
+// The tables of whole arrivals and of acknowledgments.
+
 package main
 
 import (

@@ -1,3 +1,5 @@
+// The segments of the reading tables.
+
 package main
 
 import (

@@ -1,3 +1,5 @@
+// How contestants are timed: in turn, in short runs, by the least of them.
+
 package main
 
 // A row of a table is measured in several passes, so that a while in which the machine was busy spoils no row.

@@ -1,3 +1,5 @@
+// The goals, each met or missed by the figures of this run.
+
 package main
 
 import "fmt"

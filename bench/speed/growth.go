@@ -1,3 +1,5 @@
+// The tables of how cost grows: with the payload, the options and the ranges held.
+
 package main
 
 import (

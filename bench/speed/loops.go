@@ -1,3 +1,5 @@
+// The contestants inside this process: loops that read a set of segments.
+
 package main
 
 import (

@@ -1,3 +1,5 @@
+// gVisor's and gopacket's reading of a set of segments.
+
 package main
 
 import (

@@ -1,3 +1,5 @@
+// One stream program at work: it is handed a stream, takes orders over a pipe and answers each.
+
 package main
 
 import (

@@ -1,3 +1,5 @@
+// The tables of reading a segment.
+
 package main
 
 import (

@@ -1,3 +1,5 @@
+// The check that the calls of a stream do what their row says, by the replay program.
+
 package main
 
 import (

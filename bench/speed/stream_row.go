@@ -1,3 +1,5 @@
+// The rows that are measured by the two stream programs, which must answer alike.
+
 package main
 
 import (

@@ -1,3 +1,5 @@
+// The streams of calls that are measured: the record that each starts from, and the segments that arrive.
+
 package main
 
 import "noppalerk/bench/segment"
