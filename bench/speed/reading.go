@@ -36,28 +36,28 @@ func mustRefuse(c readingCase, set segment.Set) {
 
 // A readingRow is a case that every reader reads.
 type readingRow struct {
-	refusal                 *refusalRow
-	fields                  *streamRow
-	c, lwIP, gVisor, packet *loop
-	sum                     uint64 // of the C reader's fields
+	refusal                   *refusalRow
+	fields                    *streamRow
+	c, lwIP, gVisor, goPacket *loop
+	sum                       uint64 // of the C reader's fields
 }
 
 func newReadingRow(s settings, c readingCase) *readingRow {
 	set := c.set()
 	return &readingRow{
-		refusal: newRefusalRow(c),
-		fields:  newStreamRow(s, c.name, c.refusal, reading(set)),
-		c:       newCLoop(readers.CFields, set),
-		lwIP:    newCLoop(readers.LwIP, set),
-		gVisor:  newGVisorLoop(set, c.isSYN()),
-		packet:  newGoPacketLoop(set),
-		sum:     readers.CFields.Sum(set),
+		refusal:  newRefusalRow(c),
+		fields:   newStreamRow(s, c.name, c.refusal, reading(set)),
+		c:        newCLoop(readers.CFields, set),
+		lwIP:     newCLoop(readers.LwIP, set),
+		gVisor:   newGVisorLoop(set, c.isSYN()),
+		goPacket: newGoPacketLoop(set),
+		sum:      readers.CFields.Sum(set),
 	}
 }
 
 // pass also holds the C reader's fields to those of the programs.
 func (r *readingRow) pass(s settings) {
-	r.fields.passWith(s, r.refusal.library, r.refusal.c, r.c, r.lwIP, r.gVisor, r.packet)
+	r.fields.passWith(s, r.refusal.library, r.refusal.c, r.c, r.lwIP, r.gVisor, r.goPacket)
 	if sum := fmt.Sprint(r.sum); sum != r.fields.sum {
 		fail("%s: the C reader's fields add up to %s, and the library's to %s", r.fields.name, sum, r.fields.sum)
 	}
@@ -102,5 +102,5 @@ func fieldsTable(rows []*readingRow) *table.Table {
 
 // peers are the ratios that both tables have.
 func (r *readingRow) peers(ours float64) []string {
-	return []string{ratio(r.lwIP.nanoseconds(), ours), ratio(r.gVisor.nanoseconds(), ours), ratio(r.packet.nanoseconds(), ours)}
+	return []string{ratio(r.lwIP.nanoseconds(), ours), ratio(r.gVisor.nanoseconds(), ours), ratio(r.goPacket.nanoseconds(), ours)}
 }
