@@ -2,11 +2,11 @@
 #define _POSIX_C_SOURCE 199309L
 #include "loops.h"
 
+#include <time.h>
+
 #include "lwip.h"
 #include "noppalerk.h"
 #include "reader.h"
-
-#include <time.h>
 
 typedef uint64_t round_function(const struct loops_set *set);
 
@@ -18,18 +18,18 @@ static inline const uint8_t *segment(const struct loops_set *set, size_t i)
 static uint64_t library_refusal(const struct loops_set *set)
 {
     uint64_t sum = 0;
-
-    for (size_t i = 0; i < set->count; i++)
+    for (size_t i = 0; i < set->count; i++) {
         sum += noppalerk_refusal(segment(set, i), set->length);
+    }
     return sum;
 }
 
 static uint64_t c_refusal(const struct loops_set *set)
 {
     uint64_t sum = 0;
-
-    for (size_t i = 0; i < set->count; i++)
+    for (size_t i = 0; i < set->count; i++) {
         sum += reader_refusal(segment(set, i), set->length);
+    }
     return sum;
 }
 
@@ -41,19 +41,18 @@ static inline uint64_t flag_count(uint8_t flags)
 static inline uint64_t field_sum(const struct reader_segment *read)
 {
     uint64_t sum = (uint64_t)read->source + read->destination + read->seq + read->ack + flag_count(read->flags) + read->window
-                   + read->urgent + read->mss + read->scale + read->sack_permitted + read->tsval + read->tsecr;
-
-    for (size_t i = 0; i < read->block_count; i++)
+        + read->urgent + read->mss + read->scale + read->sack_permitted + read->tsval + read->tsecr;
+    for (size_t i = 0; i < read->block_count; i++) {
         sum += (uint64_t)read->blocks[i].left + read->blocks[i].right;
+    }
     return sum + read->payload_start + read->payload_length;
 }
 
 static uint64_t c_fields(const struct loops_set *set)
 {
-    struct reader_segment read;
     uint64_t sum = 0;
-
     for (size_t i = 0; i < set->count; i++) {
+        struct reader_segment read;
         uint32_t number = reader_read(segment(set, i), set->length, &read);
         sum += number != 0 ? number : field_sum(&read);
     }
@@ -63,9 +62,9 @@ static uint64_t c_fields(const struct loops_set *set)
 static uint64_t lwip(const struct loops_set *set)
 {
     uint64_t sum = 0;
-
-    for (size_t i = 0; i < set->count; i++)
+    for (size_t i = 0; i < set->count; i++) {
         sum += lwip_read(segment(set, i), set->length);
+    }
     return sum;
 }
 
@@ -79,7 +78,6 @@ static round_function *const rounds_of[] = {
 static uint64_t now(void)
 {
     struct timespec time;
-
     clock_gettime(CLOCK_MONOTONIC, &time);
     return (uint64_t)time.tv_sec * 1000000000u + (uint64_t)time.tv_nsec;
 }
@@ -88,12 +86,11 @@ uint64_t loops_run(enum loops_reader reader, struct loops_set set, size_t rounds
 {
     /* The sum is kept, so that no call can be left out. */
     static volatile uint64_t kept;
-    uint64_t start;
-
     kept += rounds_of[reader](&set);
-    start = now();
-    for (size_t i = 0; i < rounds; i++)
+    uint64_t start = now();
+    for (size_t i = 0; i < rounds; i++) {
         kept += rounds_of[reader](&set);
+    }
     return now() - start;
 }
 

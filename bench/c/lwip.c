@@ -14,17 +14,17 @@
 
 static struct tcp_pcb connection;
 
-/* As tcp_input does before it looks for the connection. */
+/* As tcp_input does before it looks for the connection; 0 where it would drop the segment. */
 static int read_header(const uint8_t *segment, size_t length)
 {
-    u8_t header;
-
-    if (length < TCP_HLEN)
+    if (length < TCP_HLEN) {
         return 0;
+    }
     tcphdr = (struct tcp_hdr *)segment;
-    header = TCPH_HDRLEN_BYTES(tcphdr);
-    if (header < TCP_HLEN || header > length)
+    u8_t header = TCPH_HDRLEN_BYTES(tcphdr);
+    if (header < TCP_HLEN || header > length) {
         return 0;
+    }
     tcphdr_optlen = tcphdr_opt1len = (u16_t)(header - TCP_HLEN);
     tcphdr_opt2 = NULL;
     seqno = lwip_ntohl(tcphdr->seqno);
@@ -46,10 +46,11 @@ static void clear_connection(void)
 
 uint64_t lwip_read(const uint8_t *segment, size_t length)
 {
-    if (!read_header(segment, length))
+    if (!read_header(segment, length)) {
         return 0;
+    }
     clear_connection();
     tcp_parseopt(&connection);
     return (uint64_t)lwip_ntohs(tcphdr->src) + lwip_ntohs(tcphdr->dest) + seqno + ackno + flags + lwip_ntohs(tcphdr->wnd) + tcplen
-           + connection.mss + connection.snd_scale + connection.flags + connection.ts_recent;
+        + connection.mss + connection.snd_scale + connection.flags + connection.ts_recent;
 }

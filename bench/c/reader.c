@@ -18,15 +18,17 @@ static inline uint32_t number32(const uint8_t *at)
 /* Where the header ends is in `header`, if the answer is 0. */
 static inline uint32_t header_refusal(const uint8_t *segment, size_t length, size_t *header)
 {
-    if (length < LEAST_HEADER)
+    if (length < LEAST_HEADER) {
         return E1;
-    if (length > MOST_OCTETS)
+    }
+    if (length > MOST_OCTETS) {
         return E2;
+    }
     *header = (size_t)(segment[12] >> 4) * 4;
     return *header < LEAST_HEADER || *header > length ? E3 : 0;
 }
 
-/* An option's own octets, `left` of them up to the header's end. */
+/* `left` octets lie between the option's first one and the header's end. */
 static inline bool runs_past(const uint8_t *option, size_t left)
 {
     return left < 2 || option[1] < 2 || option[1] > left;
@@ -35,10 +37,10 @@ static inline bool runs_past(const uint8_t *option, size_t left)
 /* `seen` has a bit for each known kind that came before. */
 static inline uint32_t option_refusal(const uint8_t *option, size_t left, uint32_t *seen)
 {
-    bool right;
-
-    if (runs_past(option, left))
+    if (runs_past(option, left)) {
         return E4;
+    }
+    bool right;
     switch (option[0]) {
     case MSS:
         right = option[1] == 4;
@@ -58,10 +60,12 @@ static inline uint32_t option_refusal(const uint8_t *option, size_t left, uint32
     default:
         return 0;
     }
-    if (!right)
+    if (!right) {
         return E5;
-    if (*seen & 1u << option[0])
+    }
+    if (*seen & 1u << option[0]) {
         return E6;
+    }
     *seen |= 1u << option[0];
     return 0;
 }
@@ -70,18 +74,19 @@ uint32_t reader_refusal(const uint8_t *segment, size_t length)
 {
     size_t header;
     uint32_t number = header_refusal(segment, length, &header);
-    uint32_t seen = 0;
-
-    if (number != 0)
+    if (number != 0) {
         return number;
+    }
+    uint32_t seen = 0;
     for (size_t at = LEAST_HEADER; at < header && segment[at] != END;) {
         if (segment[at] == NOP) {
             at++;
             continue;
         }
         number = option_refusal(segment + at, header - at, &seen);
-        if (number != 0)
+        if (number != 0) {
             return number;
+        }
         at += segment[at + 1];
     }
     return 0;
@@ -96,7 +101,7 @@ static inline void read_blocks(const uint8_t *option, struct reader_segment *rea
     }
 }
 
-/* Of a kind's right length; an unknown kind is passed. */
+/* The option has its kind's right length; an unknown kind is passed. */
 static inline void read_option(const uint8_t *option, struct reader_segment *read)
 {
     switch (option[0]) {
@@ -135,7 +140,7 @@ static inline void read_header(const uint8_t *segment, struct reader_segment *re
     read->urgent = number16(segment + 18);
 }
 
-/* Absent options count as 0 in a sum of the fields. */
+/* Absent numbers are 0; the blocks stay, as their count says that there are none. */
 static inline void clear_options(struct reader_segment *read)
 {
     read->has_mss = read->has_scale = read->sack_permitted = read->has_stamps = false;
@@ -149,19 +154,20 @@ uint32_t reader_read(const uint8_t *segment, size_t length, struct reader_segmen
 {
     size_t header;
     uint32_t number = header_refusal(segment, length, &header);
-    uint32_t seen = 0;
-
-    if (number != 0)
+    if (number != 0) {
         return number;
+    }
     clear_options(read);
+    uint32_t seen = 0;
     for (size_t at = LEAST_HEADER; at < header && segment[at] != END;) {
         if (segment[at] == NOP) {
             at++;
             continue;
         }
         number = option_refusal(segment + at, header - at, &seen);
-        if (number != 0)
+        if (number != 0) {
             return number;
+        }
         read_option(segment + at, read);
         at += segment[at + 1];
     }
