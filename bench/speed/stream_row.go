@@ -39,12 +39,14 @@ func (r *streamRow) passWith(s settings, others ...contestant) {
 
 // enoughRounds is how many make an order long enough to be timed.
 func enoughRounds(p *program) uint32 {
-	const enough = 400 * time.Microsecond
-	rounds := uint32(1)
-	for leastOf(10, p, rounds) < enough {
-		rounds *= 2
+	const enough, most = 400 * time.Microsecond, 1 << 24
+	for rounds := uint32(1); rounds <= most; rounds *= 2 {
+		if leastOf(10, p, rounds) >= enough {
+			return rounds
+		}
 	}
-	return rounds
+	fail("%s answers %d rounds in no time", p.name, most)
+	return 0
 }
 
 // leastOf gives the least time of some orders: a program that has to wait for a processor is not taken for a slow one.
