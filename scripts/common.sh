@@ -1,13 +1,7 @@
 # For the scripts of this repository, which source it.
 
-# need COMMAND PACKAGE..: a command that is missing is installed from Debian's packages; ends the script where it cannot be had.
-need() {
-    local command=$1
-    shift
-    if command -v "$command" >/dev/null; then
-        return
-    fi
-    echo "installing $*, for the command $command" >&2
+# install_packages PACKAGE..: from Debian's packages; ends the script where they cannot be had.
+install_packages() {
     local as_root=()
     if [ "$(id -u)" != 0 ]; then
         as_root=(sudo)
@@ -16,9 +10,34 @@ need() {
         echo "error: could not install $* from Debian's packages" >&2
         exit 2
     fi
+}
+
+# need COMMAND PACKAGE..: a command that is missing is installed from Debian's packages; ends the script where it cannot be had.
+need() {
+    local command=$1
+    shift
+    if command -v "$command" >/dev/null; then
+        return
+    fi
+    echo "installing $*, for the command $command" >&2
+    install_packages "$@"
     if ! command -v "$command" >/dev/null; then
         echo "error: there is no command $command, even with $* installed" >&2
         exit 2
+    fi
+}
+
+# need_package PACKAGE..: those that are missing are installed, for packages that bring no command of their own.
+need_package() {
+    local package missing=()
+    for package; do
+        if [ "$(dpkg-query -W -f '${db:Status-Status}' "$package" 2>/dev/null)" != installed ]; then
+            missing+=("$package")
+        fi
+    done
+    if [ ${#missing[@]} != 0 ]; then
+        echo "installing ${missing[*]}" >&2
+        install_packages "${missing[@]}"
     fi
 }
 

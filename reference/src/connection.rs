@@ -1,12 +1,12 @@
 //! The connection record: opening, the verdict on an arriving segment, and what taking it changes.
 
-use crate::options::Timestamps;
-use crate::ranges::{HeldRanges, Range, SackBlocks};
+use crate::options::{BlocksInPlace, Timestamps};
+use crate::ranges::HeldRanges;
 use crate::refusal::Refusal;
 use crate::segment::Segment;
 use crate::serial::{Seq, Stamp};
 use crate::timer::Timer;
-use crate::verdict::{Part, Reason, Taken, Verdict};
+use crate::verdict::{Part, Reason, Rejection, ReportedBlocks, Taken, Verdict};
 
 pub const MAX_SHIFT: u8 = 14;
 /// The largest value of the window field.
@@ -98,13 +98,13 @@ impl Connection {
     }
 
     /// Judges an arriving segment and, where it is taken, changes the record by it.
-    pub fn arrive(&mut self, clock: u64, octets: &[u8]) -> Result<Verdict, Refusal> {
+    pub fn arrive<'a>(&mut self, clock: u64, octets: &'a [u8]) -> Result<Verdict<'a>, Refusal> {
         let segment = Segment::read(octets)?;
         self.check_clock(clock)?;
-        Ok(match self.judge(clock, &segment) {
-            Ok(part) => Verdict::Take(self.take(clock, &segment, part)),
-            Err(verdict) => verdict,
-        })
+        match self.judge(clock, &segment) {
+            Ok(part) => Ok(Verdict::Take(self.take(clock, &segment, part))),
+            Err(rejection) => Ok(Verdict::Reject(rejection)),
+        }
     }
 
     /// Notes `count` octets as sent.
@@ -149,54 +149,54 @@ impl Connection {
         Ok(())
     }
 
-    /// The new part of a segment to be taken, or the verdict on any other. The order counts.
-    fn judge(&self, clock: u64, segment: &Segment) -> Result<Part, Verdict> {
+    /// The new part of a segment to be taken, or what is done with any other. The order counts.
+    fn judge(&self, clock: u64, segment: &Segment) -> Result<Part, Rejection> {
         self.check_timestamp(clock, segment)?;
         self.check_window(segment)?;
         self.check_flags(segment)?;
         if self.snd_nxt.before(segment.ack) {
-            return Err(Verdict::DropWithAck(Reason::AckOfUnsent));
+            return Err(Rejection::DropWithAck(Reason::AckOfUnsent));
         }
         let part = self.new_part(segment);
         if !self.has_room(&part) {
-            return Err(Verdict::DropWithAck(Reason::NoRoom));
+            return Err(Rejection::DropWithAck(Reason::NoRoom));
         }
         Ok(part)
     }
 
-    fn check_timestamp(&self, clock: u64, segment: &Segment) -> Result<(), Verdict> {
+    fn check_timestamp(&self, clock: u64, segment: &Segment) -> Result<(), Rejection> {
         if !self.timestamps || segment.flags.rst() {
             return Ok(());
         }
         match segment.options.timestamps {
-            None => Err(Verdict::DropSilently(Reason::TimestampMissing)),
+            None => Err(Rejection::DropSilently(Reason::TimestampMissing)),
             Some(stamps) if !self.is_fresh(clock, stamps.value) => {
-                Err(Verdict::DropWithAck(Reason::TimestampOld))
+                Err(Rejection::DropWithAck(Reason::TimestampOld))
             }
             Some(_) => Ok(()),
         }
     }
 
-    fn check_window(&self, segment: &Segment) -> Result<(), Verdict> {
+    fn check_window(&self, segment: &Segment) -> Result<(), Rejection> {
         if self.is_acceptable(segment) {
             Ok(())
         } else if segment.flags.rst() {
-            Err(Verdict::DropSilently(Reason::UnacceptableReset))
+            Err(Rejection::DropSilently(Reason::UnacceptableReset))
         } else {
-            Err(Verdict::DropWithAck(Reason::Unacceptable))
+            Err(Rejection::DropWithAck(Reason::Unacceptable))
         }
     }
 
-    fn check_flags(&self, segment: &Segment) -> Result<(), Verdict> {
+    fn check_flags(&self, segment: &Segment) -> Result<(), Rejection> {
         let flags = segment.flags;
         if flags.rst() && segment.seq == self.rcv_nxt {
-            Err(Verdict::Reset)
+            Err(Rejection::Reset)
         } else if flags.rst() {
-            Err(Verdict::DropWithAck(Reason::ResetNotAtNext))
+            Err(Rejection::DropWithAck(Reason::ResetNotAtNext))
         } else if flags.syn() {
-            Err(Verdict::DropWithAck(Reason::Syn))
+            Err(Rejection::DropWithAck(Reason::Syn))
         } else if !flags.ack() {
-            Err(Verdict::DropSilently(Reason::NoAck))
+            Err(Rejection::DropSilently(Reason::NoAck))
         } else {
             Ok(())
         }
@@ -220,6 +220,8 @@ impl Connection {
     }
 
     /// The part of an acceptable segment between RCV.NXT and the right window edge.
+    // Inlined, as a call would need the whole segment in memory.
+    #[inline(always)]
     fn new_part(&self, segment: &Segment) -> Part {
         let length = segment.length();
         if length == 0 {
@@ -242,7 +244,7 @@ impl Connection {
         part.offset == 0 || self.held.has_room(self.rcv_nxt, part.offset, part.end())
     }
 
-    fn take(&mut self, clock: u64, segment: &Segment, part: Part) -> Taken {
+    fn take<'a>(&mut self, clock: u64, segment: &Segment<'a>, part: Part) -> Taken<'a> {
         let stamps = segment.options.timestamps.filter(|_| self.timestamps);
         if let Some(stamps) = stamps {
             self.update_ts_recent(clock, segment.seq, stamps);
@@ -255,7 +257,7 @@ impl Connection {
         }
         Taken {
             part,
-            sack: self.reported_blocks(&segment.options.sack),
+            sack: self.reported_blocks(segment.options.sack),
         }
     }
 
@@ -306,23 +308,14 @@ impl Connection {
         let _ = self.timer.sample(round_trip);
     }
 
-    /// The peer's SACK blocks that lie above SND.UNA and not past SND.NXT.
-    fn reported_blocks(&self, blocks: &SackBlocks) -> SackBlocks {
-        let mut kept = SackBlocks::default();
-        if self.sack {
-            for &block in blocks.as_slice() {
-                if self.is_outstanding(block) {
-                    kept.push(block);
-                }
-            }
+    /// The peer's SACK blocks by the record as it is now; none where SACK is not in force.
+    fn reported_blocks<'a>(&self, blocks: BlocksInPlace<'a>) -> ReportedBlocks<'a> {
+        let none = BlocksInPlace::default();
+        ReportedBlocks {
+            blocks: if self.sack { blocks } else { none },
+            snd_una: self.snd_una,
+            snd_nxt: self.snd_nxt,
         }
-        kept
-    }
-
-    fn is_outstanding(&self, block: Range) -> bool {
-        let left = self.snd_una.offset_of(block.left);
-        let right = self.snd_una.offset_of(block.right);
-        0 < left && left < right && right <= self.snd_una.offset_of(self.snd_nxt)
     }
 }
 

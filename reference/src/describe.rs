@@ -131,7 +131,7 @@ impl Display for SegmentWords<'_> {
         if let Some(stamps) = segment.options.timestamps {
             write!(f, " TSval {} TSecr {}", stamps.value.0, stamps.echo.0)?;
         }
-        for block in segment.options.sack.as_slice() {
+        for block in segment.options.sack.iter() {
             write!(f, " SACK {}-{}", block.left.0, block.right.0)?;
         }
         Ok(())

@@ -4,6 +4,7 @@
 #![forbid(unsafe_code)]
 
 pub mod acknowledgment;
+pub mod bench;
 pub mod builder;
 pub mod cases;
 pub mod compare;

@@ -7,6 +7,7 @@ use std::path::Path;
 use std::process::ExitCode;
 use std::time::{Duration, Instant};
 
+use reference::bench::bench;
 use reference::compare::compare;
 use reference::count::Counts;
 use reference::play::play;
@@ -14,8 +15,8 @@ use reference::timer_list::TimerCall;
 use reference::timer_run::{own_rtos, rtos_of_program};
 use reference::{stored, timer_run};
 
-const USAGE: &str = "usage: reference play | script | count | timer CALLS SEED [PROGRAM] | \
-                     compare COUNT SEED [PROGRAM]";
+const USAGE: &str = "usage: reference play | script | count | bench | \
+                     timer CALLS SEED [PROGRAM] | compare COUNT SEED [PROGRAM]";
 const DEFAULT_PROGRAM: &str = "target/bin/replay";
 
 const DIFFERENT: u8 = 1;
@@ -38,6 +39,7 @@ fn run(words: &[&str]) -> io::Result<ExitCode> {
         ["play"] => write_output(play(&read_input()?).as_bytes()),
         ["script"] => write_output(&stored::script()),
         ["count"] => print(&Counts::of(&read_input()?)),
+        ["bench"] => run_bench(),
         ["timer", calls, seed] => run_timer(calls, seed, |list| Ok(own_rtos(list))),
         ["timer", calls, seed, program] => run_timer(calls, seed, |list| {
             rtos_of_program(Path::new(program), list).map_err(|error| naming(program, error))
@@ -68,6 +70,11 @@ fn write_output(octets: &[u8]) -> io::Result<ExitCode> {
 
 fn print(text: &impl Display) -> io::Result<ExitCode> {
     write_output(text.to_string().as_bytes())
+}
+
+fn run_bench() -> io::Result<ExitCode> {
+    bench(&mut io::stdin().lock(), &mut io::stdout().lock())?;
+    Ok(ExitCode::SUCCESS)
 }
 
 fn run_timer(

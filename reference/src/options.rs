@@ -1,7 +1,7 @@
 //! TCP options: walking the list, and reading the known kinds.
 
 use crate::octets::{u16_at, u32_at};
-use crate::ranges::{Range, SackBlocks};
+use crate::ranges::Range;
 use crate::refusal::Refusal;
 use crate::serial::{Seq, Stamp};
 
@@ -22,75 +22,62 @@ pub struct Timestamps {
 
 /// What the known options of a segment say.
 #[derive(Clone, Copy, Debug, Default, PartialEq, Eq)]
-pub struct Options {
+pub struct Options<'a> {
     pub mss: Option<u16>,
     pub scale: Option<u8>,
     pub sack_permitted: bool,
     pub timestamps: Option<Timestamps>,
-    pub sack: SackBlocks,
+    pub sack: BlocksInPlace<'a>,
 }
 
-impl Options {
+impl<'a> Options<'a> {
     /// Reads the options of a header from left to right; the first faulty one decides.
-    pub fn read(list: &[u8]) -> Result<Options, Refusal> {
+    #[inline(always)]
+    pub fn read(list: &'a [u8]) -> Result<Options<'a>, Refusal> {
         let mut options = Options::default();
-        let mut seen = 0u16;
         for option in Walk::new(list) {
             let option = option?;
-            let kind = option[0];
-            if !length_fits(kind, option.len()) {
-                return Err(Refusal::OptionLength);
-            }
-            if is_known(kind) {
-                if seen & (1 << kind) != 0 {
-                    return Err(Refusal::OptionRepeated);
-                }
-                seen |= 1 << kind;
-                options.note(kind, &option[2..]);
-            }
+            options.note(option[0], &option[2..])?;
         }
         Ok(options)
     }
 
-    fn note(&mut self, kind: u8, body: &[u8]) {
-        match kind {
-            MSS => self.mss = Some(u16_at(body, 0)),
-            WINDOW_SCALE => self.scale = Some(body[0]),
-            SACK_PERMITTED => self.sack_permitted = true,
-            SACK => self.sack = read_blocks(body),
-            TIMESTAMPS => self.timestamps = Some(read_timestamps(body)),
-            _ => {}
+    #[inline(always)]
+    fn note(&mut self, kind: u8, body: &'a [u8]) -> Result<(), Refusal> {
+        match (kind, body.len()) {
+            (MSS, 2) => set_once(&mut self.mss, Some(u16_at(body, 0))),
+            (WINDOW_SCALE, 1) => set_once(&mut self.scale, Some(body[0])),
+            (SACK_PERMITTED, 0) => set_once(&mut self.sack_permitted, true),
+            (SACK, 8 | 16 | 24 | 32) => set_once(&mut self.sack, BlocksInPlace(body)),
+            (TIMESTAMPS, 8) => set_once(&mut self.timestamps, Some(read_timestamps(body))),
+            (MSS | WINDOW_SCALE | SACK_PERMITTED | SACK | TIMESTAMPS, _) => {
+                Err(Refusal::OptionLength)
+            }
+            _ => Ok(()),
         }
     }
 }
 
-fn is_known(kind: u8) -> bool {
-    matches!(
-        kind,
-        MSS | WINDOW_SCALE | SACK_PERMITTED | SACK | TIMESTAMPS
-    )
-}
-
-fn length_fits(kind: u8, length: usize) -> bool {
-    match kind {
-        MSS => length == 4,
-        WINDOW_SCALE => length == 3,
-        SACK_PERMITTED => length == 2,
-        SACK => matches!(length, 10 | 18 | 26 | 34),
-        TIMESTAMPS => length == 10,
-        _ => true,
+/// Notes what an option says; a second one of its kind finds the field no longer at its default.
+fn set_once<T: Default + PartialEq>(field: &mut T, value: T) -> Result<(), Refusal> {
+    if *field != T::default() {
+        return Err(Refusal::OptionRepeated);
     }
+    *field = value;
+    Ok(())
 }
 
-fn read_blocks(body: &[u8]) -> SackBlocks {
-    let mut blocks = SackBlocks::default();
-    for block in body.chunks_exact(8) {
-        blocks.push(Range {
+/// The blocks of a SACK option where they lie in the segment, so that reading one copies nothing.
+#[derive(Clone, Copy, Debug, Default, PartialEq, Eq)]
+pub struct BlocksInPlace<'a>(&'a [u8]);
+
+impl<'a> BlocksInPlace<'a> {
+    pub fn iter(self) -> impl Iterator<Item = Range> + Clone + 'a {
+        self.0.chunks_exact(8).map(|block| Range {
             left: Seq(u32_at(block, 0)),
             right: Seq(u32_at(block, 4)),
-        });
+        })
     }
-    blocks
 }
 
 fn read_timestamps(body: &[u8]) -> Timestamps {
@@ -120,6 +107,7 @@ impl<'a> Walk<'a> {
 impl<'a> Iterator for Walk<'a> {
     type Item = Result<&'a [u8], Refusal>;
 
+    #[inline(always)]
     fn next(&mut self) -> Option<Self::Item> {
         while let [NOP, rest @ ..] = self.rest {
             self.rest = rest;
@@ -184,11 +172,7 @@ mod tests {
     fn sack_blocks_are_read_in_order() {
         let list = [5, 18, 0, 0, 0, 1, 0, 0, 0, 2, 0, 0, 0, 3, 0, 0, 0, 4, 0, 0];
         let blocks = Options::read(&list).unwrap().sack;
-        let edges: Vec<_> = blocks
-            .as_slice()
-            .iter()
-            .map(|b| (b.left.0, b.right.0))
-            .collect();
+        let edges: Vec<_> = blocks.iter().map(|b| (b.left.0, b.right.0)).collect();
         assert_eq!(edges, [(1, 2), (3, 4)]);
     }
 }

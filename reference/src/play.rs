@@ -168,7 +168,7 @@ fn write_arrive(arrived: Result<Verdict, Refusal>, out: &mut String) -> fmt::Res
         taken.part.offset,
         taken.part.length,
         u8::from(taken.part.fin),
-        Ranges(taken.sack.as_slice()),
+        Ranges(taken.sack.iter()),
     )
 }
 
@@ -199,13 +199,13 @@ impl<T: Display> Display for OrDash<T> {
 }
 
 /// The number of ranges, then left and right of each.
-struct Ranges<'a>(&'a [Range]);
+struct Ranges<I>(I);
 
-impl Display for Ranges<'_> {
+impl<I: Iterator<Item = Range> + Clone> Display for Ranges<I> {
     fn fmt(&self, f: &mut fmt::Formatter) -> fmt::Result {
-        write!(f, "{}", self.0.len())?;
+        write!(f, "{}", self.0.clone().count())?;
         self.0
-            .iter()
+            .clone()
             .try_for_each(|range| write!(f, " {} {}", range.left.0, range.right.0))
     }
 }
@@ -232,7 +232,7 @@ impl Display for SegmentFields<'_> {
             u8::from(options.sack_permitted),
             OrDash(options.timestamps.map(|stamps| stamps.value.0)),
             OrDash(options.timestamps.map(|stamps| stamps.echo.0)),
-            Ranges(options.sack.as_slice()),
+            Ranges(options.sack.iter()),
             segment.payload_offset,
             segment.payload.len(),
         )
@@ -264,7 +264,7 @@ impl Display for Record<'_> {
             connection.offset,
             u8::from(connection.sack),
             connection.mss,
-            Ranges(connection.held.as_slice()),
+            Ranges(connection.held.as_slice().iter().copied()),
             TimerFields(&connection.timer),
         )
     }

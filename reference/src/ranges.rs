@@ -1,4 +1,4 @@
-//! Ranges of sequence numbers: SACK blocks, and the ranges held above RCV.NXT.
+//! Ranges of sequence numbers, and those held above RCV.NXT.
 
 use crate::serial::Seq;
 
@@ -9,29 +9,18 @@ pub struct Range {
     pub right: Seq,
 }
 
-/// Up to `N` ranges in a fixed array. Unused places hold the default range, so whole lists compare.
-#[derive(Clone, Copy, Debug, PartialEq, Eq)]
-pub struct RangeList<const N: usize> {
-    items: [Range; N],
+/// The most ranges that are held.
+const MAX_HELD: usize = 8;
+
+/// The ranges held out of order, newest first, apart from each other and above RCV.NXT. Unused places
+/// hold the default range, so whole lists compare.
+#[derive(Clone, Copy, Debug, Default, PartialEq, Eq)]
+pub struct HeldRanges {
+    items: [Range; MAX_HELD],
     count: usize,
 }
 
-/// The blocks of one SACK option.
-pub type SackBlocks = RangeList<4>;
-
-/// The ranges held out of order, newest first, apart from each other and above RCV.NXT.
-pub type HeldRanges = RangeList<8>;
-
-impl<const N: usize> Default for RangeList<N> {
-    fn default() -> Self {
-        RangeList {
-            items: [Range::default(); N],
-            count: 0,
-        }
-    }
-}
-
-impl<const N: usize> RangeList<N> {
+impl HeldRanges {
     pub fn as_slice(&self) -> &[Range] {
         &self.items[..self.count]
     }
@@ -41,13 +30,7 @@ impl<const N: usize> RangeList<N> {
     }
 
     pub fn is_full(&self) -> bool {
-        self.count == N
-    }
-
-    /// Appends a range; the list must not be full.
-    pub fn push(&mut self, range: Range) {
-        self.items[self.count] = range;
-        self.count += 1;
+        self.count == MAX_HELD
     }
 
     fn push_front(&mut self, range: Range) {

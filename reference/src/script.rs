@@ -1,13 +1,15 @@
 //! Scripts of calls: each call decoded from octets and encoded to them.
 
 use crate::connection::Opening;
-use crate::octets::{u16_at, u32_at};
+use crate::octets::{u16_at, u32_at, u64_at};
 use crate::serial::Seq;
 
 /// The longest body that a call may have.
 pub const MAX_BODY: usize = 65_664;
 
-const HEAD_LENGTH: usize = 5;
+/// The octets of a call before its body: its name and the length of the body.
+pub const HEAD_LENGTH: usize = 5;
+
 const OFFERS_TIMESTAMPS: u8 = 1;
 const OFFERS_SACK: u8 = 2;
 const OFFERS_SCALE: u8 = 4;
@@ -261,8 +263,7 @@ impl<'a> Body<'a> {
     }
 
     fn u64(&mut self) -> Result<u64, Bad> {
-        let octets = self.take(8)?;
-        Ok(u64::from(u32_at(octets, 0)) << 32 | u64::from(u32_at(octets, 4)))
+        Ok(u64_at(self.take(8)?, 0))
     }
 
     fn opening(&mut self) -> Result<Opening, Bad> {

@@ -46,12 +46,14 @@ pub struct Segment<'a> {
     pub flags: Flags,
     pub window: u16,
     pub urgent: u16,
-    pub options: Options,
+    pub options: Options<'a>,
     pub payload_offset: usize,
     pub payload: &'a [u8],
 }
 
 impl<'a> Segment<'a> {
+    // Inlined with all that reads options, so that the fields do not go by way of memory.
+    #[inline(always)]
     pub fn read(octets: &'a [u8]) -> Result<Segment<'a>, Refusal> {
         let payload_offset = header_length(octets)?;
         Ok(Segment {

@@ -3,6 +3,7 @@
 use super::*;
 use crate::builder::SegmentBuilder;
 use crate::cases::{self, opening, syn, CLOCK, ISS, UNA};
+use crate::ranges::Range;
 use crate::segment::{ACK, FIN, RST, SYN};
 use crate::serial::HALF;
 use crate::timer::MIN_RTO;
@@ -37,9 +38,10 @@ fn arrive(connection: &mut Connection, clock: u64, segment: &SegmentBuilder) -> 
     }
 }
 
-fn take(connection: &mut Connection, segment: &SegmentBuilder) -> Taken {
+/// The new part and the reported blocks of a segment that is taken.
+fn take(connection: &mut Connection, segment: &SegmentBuilder) -> (Part, Vec<Range>) {
     match connection.arrive(CLOCK, &segment.build()) {
-        Ok(Verdict::Take(taken)) => taken,
+        Ok(Verdict::Take(taken)) => (taken.part, taken.sack.iter().collect()),
         other => panic!("not taken: {:?}", other),
     }
 }
@@ -55,9 +57,9 @@ fn acknowledged(connection: &mut Connection) -> (u32, Vec<(u32, u32)>) {
     let length = connection.acknowledge(1, 2, CLOCK, &mut buffer).unwrap();
     assert!(buffer[length..].iter().all(|&octet| octet == 0xee));
     let segment = Segment::read(&buffer[..length]).unwrap();
-    let blocks = segment.options.sack;
-    let edges = |range: &Range| (range.left.0, range.right.0);
-    (segment.ack.0, blocks.as_slice().iter().map(edges).collect())
+    let edges = |range: Range| (range.left.0, range.right.0);
+    let blocks = segment.options.sack.iter().map(edges).collect();
+    (segment.ack.0, blocks)
 }
 
 #[test]
@@ -164,7 +166,7 @@ fn parts_are_cut_by_both_edges() {
     connection.rcv_wnd = 10;
     let part = |connection: &Connection, segment: &SegmentBuilder| {
         let mut copy = *connection;
-        let part = take(&mut copy, segment).part;
+        let (part, _) = take(&mut copy, segment);
         (part.offset, part.length, part.fin)
     };
     let fin = ACK | FIN;
@@ -332,8 +334,8 @@ fn peer_blocks_are_judged_after_the_take() {
     };
     let blocks = [block(9, 20), block(10, 20), block(11, 101), block(11, 100)];
     let segment = SegmentBuilder::data(Seq(5_000), UNA.plus(9), 0).sack(&blocks);
-    let taken = take(&mut connection, &segment);
-    assert_eq!(taken.sack.as_slice(), [block(10, 20), block(11, 100)]);
+    let (_, reported) = take(&mut connection, &segment);
+    assert_eq!(reported, [block(10, 20), block(11, 100)]);
 }
 
 #[test]

@@ -1,0 +1,22 @@
+/* The loops in C that are timed: one short run reads each segment of a set so many times. */
+#ifndef LOOPS_H
+#define LOOPS_H
+
+#include <stddef.h>
+#include <stdint.h>
+
+/* Segments of one length, side by side. */
+struct loops_set {
+    const uint8_t *first;
+    size_t length, count;
+};
+
+enum loops_reader { LOOPS_LIBRARY_REFUSAL, LOOPS_C_REFUSAL, LOOPS_C_FIELDS, LOOPS_LWIP };
+
+/* The nanoseconds of `rounds` rounds, after one that is not timed and warms the caches. */
+uint64_t loops_run(enum loops_reader reader, struct loops_set set, size_t rounds);
+
+/* What one round adds up: refusal numbers, or fields as the stream programs sum them. */
+uint64_t loops_sum(enum loops_reader reader, struct loops_set set);
+
+#endif
