@@ -26,7 +26,7 @@ use Rattle.receive.specs.Window as receive
 use Rattle.send.specs.Send as send
 use Rattle.send.specs.declared.Seg.{Seg}
 use Rattle.connection.specs.Arriving.{arriving, arrivingRead, judged, settled, takenBy}
-use Rattle.connection.specs.Calls.{Call, arrival, called, run}
+use Rattle.connection.specs.Calls.{Call, arrival, called, run, unread}
 use Rattle.connection.specs.Cases as cases
 use Rattle.connection.specs.Opening.{isNotSyn, isWrongAck, opening, openingFrom, recordFrom, recordWith, timestampingFrom}
 use Rattle.connection.specs.Taking.{fedBy, isRecorded, recordAfter, timestampingAfter}
@@ -58,7 +58,7 @@ segment : ℕ → List ℕ → ℕ → List ℕ
 segment seq options payload = cases.octets seq 1000 cases.ack 9 options payload
 
 at : ℕ → ℕ → Call
-at seq payload = arrival 0 (segment seq [] payload)
+at seq payload = arrival 0 (unread (segment seq [] payload))
 
 -- timestamps and SACK offered; first receive window 65,535; our timestamp is the clock
 own : Setup

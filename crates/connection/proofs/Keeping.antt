@@ -19,7 +19,7 @@ use Rattle.connection.specs.declared.Connection.{Connection}
 use Rattle.connection.specs.declared.Setup.{Setup}
 use Rattle.connection.specs.Numbers.{Decision}
 use Rattle.connection.specs.Record.{Answer, Sound, blank}
-use Rattle.connection.specs.Opening.{isNotSyn, isWrongAck, opening, openingFrom, peerOffers, recordFrom, recordWith, refusedOpening, segOf}
+use Rattle.connection.specs.Opening.{isNotSyn, isWrongAck, opening, openingFrom, openingRead, peerOffers, recordFrom, recordWith, refusedOpening, segOf}
 use Rattle.connection.specs.Verdict.{decided, rows}
 use Rattle.connection.specs.Taking.{fedBy, recordAfter}
 use Rattle.connection.specs.Arriving.{Arrival, arriving, arrivingRead, isTake, judged, settled, takenBy}
@@ -27,7 +27,7 @@ use Rattle.connection.specs.Operations.{acknowledged, expired, sent, win
 use Rattle.laws.proofs.Choices.{either, if-some}
 
 -- opening
-blank-sound : Sound blank
+pub blank-sound : Sound blank
 unfolding blank
 blank-sound = record {
   receive-sound = opening-side.opened-sound 0 0 0 (omega arith) (omega arith) (omega arith);
@@ -47,19 +47,31 @@ record-sound own clock syn kept =
       timer-sound = sound-new;
     }
 
+abbrev SoundAnswer : Answer → Type 0
+SoundAnswer a = Sound (a .connection)
+
+-- past E9
+module _ (own : Setup) (clock : ℕ) (kept : exceedLimits (own .offers) (own .window) ≡ false) where
+  opening-from-sound : (syn : Segment) → Sound (openingFrom own clock syn .connection)
+  unfolding openingFrom
+  opening-from-sound syn =
+      either SoundAnswer (isNotSyn syn) (refusedOpening 10) _ (λ _. blank-sound)
+      (λ _.
+      either SoundAnswer (isWrongAck (own .iss .0) syn) (refusedOpening 11) _ (λ _. blank-sound) (λ _. record-sound own clock syn kept))
+
+pub opening-read-sound : (own : Setup) (clock : ℕ) (syn : Segment) → Sound (openingRead own clock syn .connection)
+unfolding openingRead
+opening-read-sound own clock syn =
+    either SoundAnswer (exceedLimits (own .offers) (own .window)) (refusedOpening 9) _ (λ _. blank-sound)
+    (λ kept. opening-from-sound own clock kept syn)
+
 pub opening-sound : (own : Setup) (clock : ℕ) (octets : List ℕ) → Sound (opening own clock octets .connection)
-unfolding opening openingFrom
+unfolding opening
 opening-sound own clock octets =
     either SoundAnswer (exceedLimits (own .offers) (own .window)) (refusedOpening 9) _ (λ _. blank-sound)
     (λ kept.
     if-some SoundAnswer (reading octets .fields) (refusedOpening (reading octets .number)) (openingFrom own clock) blank-sound
-    (λ syn.
-    either SoundAnswer (isNotSyn syn) (refusedOpening 10) _ (λ _. blank-sound)
-    (λ _.
-    either SoundAnswer (isWrongAck (own .iss .0) syn) (refusedOpening 11) _ (λ _. blank-sound) (λ _. record-sound own clock syn kept))))
-  where
-    SoundAnswer : Answer → Type 0
-    SoundAnswer a = Sound (a .connection)
+    (opening-from-sound own clock kept))
 
 abbrev SoundArrival : Arrival → Type 0
 SoundArrival a = Sound (a .connection)
@@ -79,12 +91,14 @@ module _ (k : Connection) (h : Sound k) where
   settled-sound clock s d =
       either SoundArrival (isTake (d .answer)) _ _ (λ _. search (record-after-sound clock s)) (λ _. search (h .receive-sound))
 
+  pub arriving-read-sound : (clock : ℕ) (s : Segment) → Sound (arrivingRead k clock s .connection)
+  unfolding arrivingRead judged
+  arriving-read-sound clock s =
+      either SoundArrival (ltb clock (k .timestamping .since)) _ _ (λ _. h) (λ _. settled-sound clock s (decided (rows k clock s)))
+
   pub arriving-sound : (clock : ℕ) (octets : List ℕ) → Sound (arriving k clock octets .connection)
-  unfolding arriving arrivingRead judged
-  arriving-sound clock octets =
-      if-some SoundArrival (reading octets .fields) _ (arrivingRead k clock) h
-      (λ s.
-      either SoundArrival (ltb clock (k .timestamping .since)) _ _ (λ _. h) (λ _. settled-sound clock s (decided (rows k clock s))))
+  unfolding arriving
+  arriving-sound clock octets = if-some SoundArrival (reading octets .fields) _ (arrivingRead k clock) h (arriving-read-sound clock)
 
   pub sent-sound : (n : ℕ) → Sound (sent k n .connection)
   unfolding sent

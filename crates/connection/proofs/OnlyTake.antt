@@ -13,7 +13,7 @@ use Rattle.connection.specs.declared.Connection.{Connection}
 use Rattle.connection.specs.declared.Setup.{Setup}
 use Rattle.connection.specs.Numbers.{Decision, refuse}
 use Rattle.connection.specs.Record.{Answer}
-use Rattle.connection.specs.Opening.{isNotSyn, isWrongAck, opening, openingFrom, refusedOpening}
+use Rattle.connection.specs.Opening.{isNotSyn, isWrongAck, opening, openingFrom, openingRead, refusedOpening}
 use Rattle.connection.specs.Verdict.{decided, rows}
 use Rattle.connection.specs.Arriving.{Arrival, arriving, arrivingRead, isTake, judged, settled, takenBy, unchanged}
 use Rattle.connection.specs.Operations.{sent, windowOpened, withReceive, withSend}
@@ -28,32 +28,40 @@ unfolding settled takenBy
 settled-leaves k clock s d =
     either (Leaves k) (isTake (d .answer)) (takenBy k clock s) (unchanged k d) (λ _ e. absurd (false≢true (sym e))) (λ _ e. refl)
 
+pub only-take-read : (k : Connection) (clock : ℕ) (s : Segment) → Leaves k (arrivingRead k clock s)
+unfolding arrivingRead judged
+only-take-read k clock s =
+    either (Leaves k) (ltb clock (k .timestamping .since)) _ _ (λ _ e. refl) (λ _. settled-leaves k clock s (decided (rows k clock s)))
+
 pub only-take : (k : Connection) (clock : ℕ) (octets : List ℕ) → Leaves k (arriving k clock octets)
-unfolding arriving arrivingRead judged
-only-take k clock octets =
-    if-some (Leaves k) (reading octets .fields) _ (arrivingRead k clock) (λ e. refl)
-    (λ s.
-    either (Leaves k) (ltb clock (k .timestamping .since)) _ _ (λ _ e. refl)
-    (λ _. settled-leaves k clock s (decided (rows k clock s))))
+unfolding arriving
+only-take k clock octets = if-some (Leaves k) (reading octets .fields) _ (arrivingRead k clock) (λ e. refl) (only-take-read k clock)
 
 pub refusal-leaves : (k : Connection) (clock : ℕ) (octets : List ℕ) → arriving k clock octets .decision .answer ≡ refuse
     → arriving k clock octets ≡ unchanged k (arriving k clock octets .decision)
 refusal-leaves k clock octets e = only-take k clock octets (rw e refl)
 
 -- a refused opening gives the blank record
-pub opening-refusal : (own : Setup) (clock : ℕ) (octets : List ℕ) → (opening own clock octets .number ≡ 0 → ⊥)
-    → opening own clock octets ≡ refusedOpening (opening own clock octets .number)
-unfolding opening openingFrom
-opening-refusal own clock octets =
-    either Blank (exceedLimits (own .offers) (own .window)) _ _ (λ _ e. refl)
-    (λ _.
-    if-some Blank (reading octets .fields) _ (openingFrom own clock) (λ e. refl)
-    (λ syn.
-    either Blank (isNotSyn syn) _ _ (λ _ e. refl)
-    (λ _. either Blank (isWrongAck (own .iss .0) syn) _ _ (λ _ e. refl) (λ _ e. absurd (e refl)))))
-  where
-    Blank : Answer → Type 0
-    Blank a = (a .number ≡ 0 → ⊥) → a ≡ refusedOpening (a .number)
+abbrev Blank : Answer → Type 0
+Blank a = (a .number ≡ 0 → ⊥) → a ≡ refusedOpening (a .number)
+
+module _ (own : Setup) (clock : ℕ) where
+  opening-from-refusal : (syn : Segment) → Blank (openingFrom own clock syn)
+  unfolding openingFrom
+  opening-from-refusal syn =
+      either Blank (isNotSyn syn) _ _ (λ _ e. refl)
+      (λ _. either Blank (isWrongAck (own .iss .0) syn) _ _ (λ _ e. refl) (λ _ e. absurd (e refl)))
+
+  pub opening-read-refusal : (syn : Segment) → Blank (openingRead own clock syn)
+  unfolding openingRead
+  opening-read-refusal syn =
+      either Blank (exceedLimits (own .offers) (own .window)) _ _ (λ _ e. refl) (λ _. opening-from-refusal syn)
+
+  pub opening-refusal : (octets : List ℕ) → Blank (opening own clock octets)
+  unfolding opening
+  opening-refusal octets =
+      either Blank (exceedLimits (own .offers) (own .window)) _ _ (λ _ e. refl)
+      (λ _. if-some Blank (reading octets .fields) _ (openingFrom own clock) (λ e. refl) opening-from-refusal)
 
 -- E12 and E13 leave the record
 pub sent-refusal : (k : Connection) (n : ℕ) → (sent k n .number ≡ 0 → ⊥) → sent k n .connection ≡ k

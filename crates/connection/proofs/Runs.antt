@@ -25,17 +25,17 @@ use Rattle.connection.specs.declared.Connection.{Connection}
 use Rattle.connection.specs.declared.Setup.{Setup}
 use Rattle.connection.specs.Numbers.{Decision}
 use Rattle.connection.specs.Record.{Answer, Sound, blank}
-use Rattle.connection.specs.Opening.{isNotSyn, isWrongAck, opening, openingFrom, recordFrom, recordWith}
+use Rattle.connection.specs.Opening.{isNotSyn, isWrongAck, opening, openingFrom, openingRead, recordFrom, recordWith}
 use Rattle.connection.specs.Verdict.{decided, rows}
 use Rattle.connection.specs.Taking.{fedBy, recordAfter, sampleOf}
 use Rattle.connection.specs.Arriving.{arriving, arrivingRead, isTake, judged, refusedWith, settled, takenBy, unchanged}
 use Rattle.connection.specs.Operations.{acknowledged, expired, sent, windowOpened}
-use Rattle.connection.specs.Calls.{Call, Opened, acknowledgment, arrival, called, expiry, run, sending, timerCall, timerCalls, window}
+use Rattle.connection.specs.Calls.{Call, Incoming, Opened, acknowledgment, arrival, called, expiry, fieldsOf, openedBy, read, run, sending, timerCall, timerCalls, unread, window}
 use Rattle.connection.specs.Demand.{Demand3, SoundAlways, TimerFollows}
 use Rattle.connection.specs.Cases.{base, fin, octets, stamps}
 use Rattle.connection.specs.Witnesses.{base-opened, fedCalls, witnesses}
 use Rattle.laws.proofs.Choices.{either, if-some}
-use Rattle.connection.proofs.Keeping.{acknowledged-sound, arriving-sound, expired-sound, opening-sound, sent-sound, window-sound}
+use Rattle.connection.proofs.Keeping.{acknowledged-sound, arriving-read-sound, arriving-sound, expired-sound, opening-read-sound, opening-sound, sent-sound, window-sound}
 
 -- what an arrival feeds to the timer is what its record's timer has run through
 module _ (k : Connection) (clock : ℕ) where
@@ -67,8 +67,9 @@ module _ (k : Connection) (clock : ℕ) where
       pick false = settled-timer s (decided (rows k clock s))
 
 called-timer : (k : Connection) (c : Call) → called k c .timer ≡ rto.run (k .timer) (timerCall k c)
-unfolding arriving sent windowOpened expired acknowledged
-called-timer k (arrival clock octets) = arrival-timer k clock (reading octets .number) (reading octets .fields)
+unfolding arriving sent windowOpened expired acknowledged Option·elim
+called-timer k (arrival clock (unread l)) = arrival-timer k clock (reading l .number) (reading l .fields)
+called-timer k (arrival clock (read s)) = arrival-timer k clock 0 (some s)
 called-timer k (sending n) = refl
 called-timer k (window n) = refl
 called-timer k expiry = refl
@@ -81,8 +82,8 @@ pub sample-fed : (k : Connection) (clock : ℕ) (octets : List ℕ) (s : Segment
     → arriving k clock octets .connection .timer
     ≡ rto.called (k .timer) (rto.sample (roundTrip (stampAt clock (k .timestamping .offset)) (echoed .0)))
 unfolding fedBy sampleOf Option·elim
-sample-fed k clock octets s value echoed read stamps active new takes =
-    called-timer k (arrival clock octets) ∙ rw (takes, read, active, new, stamps)
+sample-fed k clock octets s value echoed is stamps active new takes =
+    called-timer k (arrival clock (unread octets)) ∙ rw (takes, fieldsOf, is, active, new, stamps)
 
 run-append : (t : Timer) (cs ds : List rto.Call) → rto.run t (cs ++ ds) ≡ rto.run (rto.run t cs) ds
 run-append t [] ds = refl
@@ -96,23 +97,30 @@ run-timer (c ∷ cs) k =
     ∙ sym (run-append (k .timer) (timerCall k c) (timerCalls (called k c) cs)))
 
 -- the timer is new at opening
-opening-timer : (own : Setup) (clock : ℕ) (octets : List ℕ) → opening own clock octets .connection .timer ≡ newTimer
-unfolding opening openingFrom recordFrom recordWith blank
-opening-timer own clock octets =
-    either New (exceedLimits (own .offers) (own .window)) _ _ (λ _. refl)
-    (λ _.
-    if-some New (reading octets .fields) _ (openingFrom own clock) refl
-    (λ syn. either New (isNotSyn syn) _ _ (λ _. refl) (λ _. either New (isWrongAck (own .iss .0) syn) _ _ (λ _. refl) (λ _. refl))))
-  where
-    New : Answer → Type 0
-    New a = a .connection .timer ≡ newTimer
+abbrev New : Answer → Type 0
+New a = a .connection .timer ≡ newTimer
+
+module _ (own : Setup) (clock : ℕ) where
+  opening-from-timer : (syn : Segment) → New (openingFrom own clock syn)
+  unfolding openingFrom recordFrom recordWith blank
+  opening-from-timer syn =
+      either New (isNotSyn syn) _ _ (λ _. refl) (λ _. either New (isWrongAck (own .iss .0) syn) _ _ (λ _. refl) (λ _. refl))
+
+  opening-timer : (syn : Incoming) → New (openedBy own clock syn)
+  unfolding opening openingRead blank
+  opening-timer (unread octets) =
+      either New (exceedLimits (own .offers) (own .window)) _ _ (λ _. refl)
+      (λ _. if-some New (reading octets .fields) _ (openingFrom own clock) refl opening-from-timer)
+  opening-timer (read syn) =
+      either New (exceedLimits (own .offers) (own .window)) _ _ (λ _. refl) (λ _. opening-from-timer syn)
 
 opened-timer : (k : Connection) → Opened k → k .timer ≡ newTimer
 opened-timer k o = sym (ap (λ (x : Connection). x .timer) (o .opens)) ∙ opening-timer (o .own) (o .clock) (o .syn)
 
 -- an opening, then any calls
 called-sound : (k : Connection) (c : Call) → Sound k → Sound (called k c)
-called-sound k (arrival clock octets) h = arriving-sound k h clock octets
+called-sound k (arrival clock (unread octets)) h = arriving-sound k h clock octets
+called-sound k (arrival clock (read s)) h = arriving-read-sound k h clock s
 called-sound k (sending n) h = sent-sound k h n
 called-sound k (window n) h = window-sound k h n
 called-sound k expiry h = expired-sound k h
@@ -122,9 +130,12 @@ run-sound : (calls : List Call) (k : Connection) → Sound k → Sound (run k ca
 run-sound [] k h = h
 run-sound (c ∷ cs) k h = run-sound cs (called k c) (called-sound k c h)
 
+opened-sound : (own : Setup) (clock : ℕ) (syn : Incoming) → Sound (openedBy own clock syn .connection)
+opened-sound own clock (unread octets) = opening-sound own clock octets
+opened-sound own clock (read syn) = opening-read-sound own clock syn
+
 pub sound-always : SoundAlways
-sound-always k o calls =
-    run-sound calls k (subst Sound (o .opens) (opening-sound (o .own) (o .clock) (o .syn)))
+sound-always k o calls = run-sound calls k (subst Sound (o .opens) (opened-sound (o .own) (o .clock) (o .syn)))
 
 pub timer-follows : TimerFollows
 timer-follows k o calls = run-timer calls k ∙ ap (λ t. rto.run t (timerCalls k calls)) (opened-timer k o)
@@ -135,7 +146,7 @@ demand-3-in-record k o calls stands = rw (timer-follows k o calls) (demand-3 (ti
 
 -- The claim's premise can be met: a record is opened, and a segment is taken whose sample is 57 ms.
 abbrev timed : List Call
-timed = arrival 150 (octets 5000 1001 fin 9 (stamps 60 100) 500) ∷ []
+timed = arrival 150 (unread (octets 5000 1001 fin 9 (stamps 60 100) 500)) ∷ []
 
 demand-3-in-record-worked : rto-demand.OnTime (run base timed .timer .timeout) (exactRun unset (timerCalls base timed))
 unfolding Demand3 fedCalls

@@ -1,36 +1,55 @@
 -- Any list of calls on a record that is freshly opened, and the calls that these make on its timer.
 use mathlib.Core.Bool.{cond}
 use mathlib.Core.List.{List, [], _∷_, _++_}
-use mathlib.Core.Option.{Option·elim}
+use mathlib.Core.Option.{Option, some, Option·elim}
 use mathlib.Core.Path.{_≡_}
 use Prim.Native.Nat.{ℕ}
 use Rattle.rto.specs.Calls as rto
 use Rattle.segment.specs.Reading.{reading}
+use Rattle.segment.specs.declared.Segment.{Segment}
 use Rattle.connection.specs.declared.Connection.{Connection}
 use Rattle.connection.specs.declared.Setup.{Setup}
-use Rattle.connection.specs.Opening.{opening}
+use Rattle.connection.specs.Record.{Answer}
+use Rattle.connection.specs.Opening.{opening, openingRead}
 use Rattle.connection.specs.Taking.{fedBy}
-use Rattle.connection.specs.Arriving.{arriving, isTake}
+use Rattle.connection.specs.Arriving.{Arrival, arriving, arrivingRead, isTake}
 use Rattle.connection.specs.Operations.{acknowledged, expired, sent, windowOpened}
+
+-- a segment as it comes in: its octets, or its fields where it was read before
+pub data Incoming : Type 0 where
+  unread : List ℕ → Incoming
+  read : Segment → Incoming
+
+abbrev pub fieldsOf : Incoming → Option Segment
+fieldsOf (unread octets) = reading octets .fields
+fieldsOf (read s) = some s
+
+abbrev pub openedBy : Setup → ℕ → Incoming → Answer
+openedBy own clock (unread octets) = opening own clock octets
+openedBy own clock (read syn) = openingRead own clock syn
+
+abbrev pub arrived : Connection → ℕ → Incoming → Arrival
+arrived k clock (unread octets) = arriving k clock octets
+arrived k clock (read s) = arrivingRead k clock s
 
 -- a record that an opening gave, also the blank one that a refused opening gives
 pub record Opened (k : Connection) : Type 0 where
   pub own : Setup
   pub clock : ℕ
-  pub syn : List ℕ
-  pub opens : opening own clock syn .connection ≡ k
+  pub syn : Incoming
+  pub opens : openedBy own clock syn .connection ≡ k
 
 -- a segment at a clock, octets sent, a new receive window, an expiry, an acknowledgment written. An acknowledgment that is refused leaves
 -- the record, so a list of calls need not have it.
 pub data Call : Type 0 where
-  arrival : ℕ → List ℕ → Call
+  arrival : ℕ → Incoming → Call
   sending : ℕ → Call
   window : ℕ → Call
   expiry : Call
   acknowledgment : Call
 
 abbrev pub called : Connection → Call → Connection
-called k (arrival clock octets) = arriving k clock octets .connection
+called k (arrival clock s) = arrived k clock s .connection
 called k (sending n) = sent k n .connection
 called k (window n) = windowOpened k n .connection
 called k expiry = expired k
@@ -42,12 +61,11 @@ run k [] = k
 run k (c ∷ cs) = run (called k c) cs
 
 -- what an arrival feeds to the timer: the sample of a segment that is taken
-abbrev pub fed : Connection → ℕ → List ℕ → List rto.Call
-fed k clock octets =
-    cond (isTake (arriving k clock octets .decision .answer)) (Option·elim (reading octets .fields) [] (fedBy k clock)) []
+abbrev pub fed : Connection → ℕ → Incoming → List rto.Call
+fed k clock s = cond (isTake (arrived k clock s .decision .answer)) (Option·elim (fieldsOf s) [] (fedBy k clock)) []
 
 abbrev pub timerCall : Connection → Call → List rto.Call
-timerCall k (arrival clock octets) = fed k clock octets
+timerCall k (arrival clock s) = fed k clock s
 timerCall k (sending n) = []
 timerCall k (window n) = []
 timerCall k expiry = rto.expiry ∷ []

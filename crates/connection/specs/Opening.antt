@@ -97,6 +97,10 @@ openingFrom own clock syn =
     (cond (isWrongAck (own .iss .0) syn) (refusedOpening 11)
     (record { number = 0; connection = recordFrom own clock syn }))
 
+-- E9, E10, E11, of a segment that has been read
+unfoldable pub openingRead : Setup → ℕ → Segment → Answer
+openingRead own clock syn = cond (exceedLimits (own .offers) (own .window)) (refusedOpening 9) (openingFrom own clock syn)
+
 -- E9, reading, E10, E11
 unfoldable pub opening : Setup → ℕ → List ℕ → Answer
 opening own clock octets =

@@ -33,7 +33,7 @@ use Rattle.connection.specs.Verdict.{hasOldTimestamp, lacksTimestamp, ou
 use Rattle.connection.specs.Taking.{fedBy, isRecorded, listed, recordAfter, replacesRecent, sampleOf, timestampingAfter}
 use Rattle.connection.specs.Arriving.{Arrival, arriving, arrivingRead, judged, settled, takenBy}
 use Rattle.connection.specs.Operations.{acknowledged, expired, sent, windowOpened}
-use Rattle.connection.specs.Calls.{Call, Opened, acknowledgment, arrival, expiry, run, sending, timerCall, timerCalls, window}
+use Rattle.connection.specs.Calls.{Call, Opened, acknowledgment, arrival, expiry, run, sending, timerCall, timerCalls, unread, window}
 use Rattle.connection.specs.Cases.{ack, answer, answered, bare, base, behind, connected, decision, fin, fourBlocks, full, left, newly, octets, outstanding, own, plain, receiveSide, recorded, rst, sacks, sampled, sendSide, setup, seven, stamps, syn, synOptions, unacknowledged, unscaled, unscaledReceive, unscaledSend, zeroWindow}
 
 -- the enums
@@ -385,8 +385,8 @@ operations =
 -- each call once: a sample of 57, octets sent, the window opened, an expiry, an acknowledgment, and a sample of 600,001
 abbrev calls : List Call
 calls =
-    arrival 150 (octets 5000 1001 fin 9 (stamps 60 100) 500) ∷ sending 5 ∷ window 65535 ∷ expiry ∷ acknowledgment
-    ∷ arrival 160 (octets 5501 1003 ack 9 (stamps 61 4294367462) 0) ∷ []
+    arrival 150 (unread (octets 5000 1001 fin 9 (stamps 60 100) 500)) ∷ sending 5 ∷ window 65535 ∷ expiry ∷ acknowledgment
+    ∷ arrival 160 (unread (octets 5501 1003 ack 9 (stamps 61 4294367462) 0)) ∷ []
 
 pub runs : List (Connection × Connection)
 runs = (
@@ -398,15 +398,15 @@ runs = (
 -- what calls feed to the timer: the sample of a take that has a new ACK, an expiry, and nothing else
 unfoldable pub fedCalls : List (List rto.Call × List rto.Call)
 fedCalls =
-    (timerCall base (arrival 150 (octets 5000 1001 fin 9 (stamps 60 100) 500)), rto.sample 57 ∷ [])
+    (timerCall base (arrival 150 (unread (octets 5000 1001 fin 9 (stamps 60 100) 500))), rto.sample 57 ∷ [])
     -- one that the timer leaves out is fed too
-    ∷ (timerCall base (arrival 150 (octets 5000 1001 ack 9 (stamps 60 4294367452) 0)), rto.sample 600001 ∷ [])
-    ∷ (timerCall base (arrival 150 (octets 5000 1000 ack 9 (stamps 60 100) 500)), [])
-    ∷ (timerCall base (arrival 150 (octets 5000 1002 ack 9 (stamps 60 100) 500)), [])
-    ∷ (timerCall base (arrival 150 (octets 4000 1001 ack 9 (stamps 60 100) 500)), [])
-    ∷ (timerCall base (arrival 99 (octets 5000 1001 ack 9 (stamps 60 100) 500)), [])
-    ∷ (timerCall base (arrival 150 []), [])
-    ∷ (timerCall plain (arrival 150 (octets 5000 1001 ack 9 (stamps 60 100) 500)), [])
+    ∷ (timerCall base (arrival 150 (unread (octets 5000 1001 ack 9 (stamps 60 4294367452) 0))), rto.sample 600001 ∷ [])
+    ∷ (timerCall base (arrival 150 (unread (octets 5000 1000 ack 9 (stamps 60 100) 500))), [])
+    ∷ (timerCall base (arrival 150 (unread (octets 5000 1002 ack 9 (stamps 60 100) 500))), [])
+    ∷ (timerCall base (arrival 150 (unread (octets 4000 1001 ack 9 (stamps 60 100) 500))), [])
+    ∷ (timerCall base (arrival 99 (unread (octets 5000 1001 ack 9 (stamps 60 100) 500))), [])
+    ∷ (timerCall base (arrival 150 (unread [])), [])
+    ∷ (timerCall plain (arrival 150 (unread (octets 5000 1001 ack 9 (stamps 60 100) 500))), [])
     ∷ (timerCall base expiry, rto.expiry ∷ [])
     ∷ (timerCall base (sending 1), [])
     ∷ (timerCall base (window 65535), [])
@@ -439,6 +439,6 @@ unfolding openings
 base-opened = record {
   own = own;
   clock = 100;
-  syn = octets 4999 0 syn 8192 (synOptions 50 3) 0;
+  syn = unread (octets 4999 0 syn 8192 (synOptions 50 3) 0);
   opens = ap (λ l. getD l 0 (answered 0 base) .connection) (witnesses .2);
 }

@@ -7,8 +7,8 @@ mod timestamps;
 
 ghost use mathlib.Core.Path.{_≡_};
 ghost use Rattle.connection.specs.Numbers.{arriveRefusalNumber, openNumber, openRefusalNumber, outcomeOf, reasonNumber, verdictOf};
-ghost use Rattle.connection.specs.Record.{Sound};
-ghost use Rattle.connection.specs.Opening.{opening, shownOpen};
+ghost use Rattle.connection.specs.Record.{Sound, blank};
+ghost use Rattle.connection.specs.Opening.{opening, openingRead, shownOpen};
 ghost use Rattle.connection.specs.Arriving.{arriving, arrivingRead, isTake, shown, takenBy, unchanged};
 ghost use Rattle.connection.specs.Operations.{expired, sent, shownSent, shownWindow, windowOpened};
 use offers::Offers;
@@ -235,6 +235,26 @@ impl Connection {
         }
     }
 
+    // The same from a SYN segment that has been read: E9, E10, E11.
+    pub fn open_read(own: Setup, clock: u64, syn: Segment) -> OpenAnswer
+        ensures answer { λ r. ⌜ shownOpen r ≡ openingRead own clock syn ⌝ }
+        ensures sound { λ r. ⌜ Sound (r .connection) ⌝ }
+    {
+        let offers = own.offers;
+        if offers.exceed_limits(own.window) {
+            return opening::refused(OpenRefusal::ExceededLimits);
+        }
+        opening::open_from(own, clock, syn)
+    }
+
+    // The record of a refused opening.
+    pub fn blank() -> Connection
+        ensures blank { λ r. ⌜ r ≡ blank ⌝ }
+        ensures sound { λ r. ⌜ Sound r ⌝ }
+    {
+        opening::blank_record()
+    }
+
     // The answer to a segment that arrives at this clock: reading, E8, the verdict, and what taking does.
     pub fn arrive(self, clock: u64, segment: &[u8]) -> Arrival
         requires { ⌜ Sound self ⌝ }
@@ -248,6 +268,22 @@ impl Connection {
             }
             Reading::Segment(whole) => self.arrive_read(clock, whole),
         }
+    }
+
+    // The same for a segment that has been read, as by a caller who finds the connection by its ports: E8, then the verdict.
+    pub fn arrive_read(self, clock: u64, s: Segment) -> Arrival
+        requires { ⌜ Sound self ⌝ }
+        ensures answer { λ r. ⌜ shown r ≡ arrivingRead self clock s ⌝ }
+        ensures sound { λ r. ⌜ Sound (r .connection) ⌝ }
+    {
+        if clock < self.timestamping.since {
+            return self.unchanged(ArriveOutcome::Refused(ArriveRefusal::ClockBack));
+        }
+        let verdict = judging::judge(self, clock, s);
+        if is_take(verdict) {
+            return self.take(clock, s);
+        }
+        self.unchanged(ArriveOutcome::Judged(verdict))
     }
 
     // Notes that `n` octets were sent.
@@ -288,21 +324,6 @@ impl Connection {
     {
         let timer = self.timer.expire();
         Connection { timer, ..self }
-    }
-
-    // E8, then the verdict.
-    fn arrive_read(self, clock: u64, s: Segment) -> Arrival
-        requires { ⌜ Sound self ⌝ }
-        ensures { λ r. ⌜ shown r ≡ arrivingRead self clock s ⌝ }
-    {
-        if clock < self.timestamping.since {
-            return self.unchanged(ArriveOutcome::Refused(ArriveRefusal::ClockBack));
-        }
-        let verdict = judging::judge(self, clock, s);
-        if is_take(verdict) {
-            return self.take(clock, s);
-        }
-        self.unchanged(ArriveOutcome::Judged(verdict))
     }
 
     fn take(self, clock: u64, s: Segment) -> Arrival

@@ -88,9 +88,9 @@ fn record_with(force: InForce, own: Setup, clock: u64, syn: Segment) -> Connecti
     let options = syn.options;
     let pair = options.timestamps;
     let mss_option = options.mss;
-    let receive = Receive::new(syn.seq.moved(1), own.window, force.shifts.receive);
+    let receive = Receive::new(syn.seq.moved(1), own.window, force.shifts.receive as u32);
     let seg = seg_of(syn);
-    let send = Send::new(own.iss, force.shifts.send, seg, syn.flags.ack);
+    let send = Send::new(own.iss, force.shifts.send as u32, seg, syn.flags.ack);
     let timestamping = timestamps::opened(force.timestamps, own.offset, clock, pair);
     let sack = force.sack;
     let mss = mss(mss_option);
@@ -114,7 +114,7 @@ fn record_from(own: Setup, clock: u64, syn: Segment) -> Connection
     record_with(force, own, clock, syn)
 }
 
-fn blank_record() -> Connection
+pub fn blank_record() -> Connection
     ensures { λ r. ⌜ r ≡ blank ⌝ }
 {
     let zero = Seq(0);

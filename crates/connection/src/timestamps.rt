@@ -1,4 +1,5 @@
 // Timestamps: missing or old ones, and what becomes TS.Recent.
+ghost use mathlib.Core.Bool.{cond};
 ghost use mathlib.Core.Path.{_≡_};
 ghost use Rattle.connection.specs.Opening.{hasTimestamps, timestampingFrom, valueOf};
 ghost use Rattle.connection.specs.Verdict.{hasOldTimestamp, lacksTimestamp, outdated, valueBefore};
@@ -132,7 +133,20 @@ fn are_recorded(t: Timestamping, clock: u64, acked: Seq, seq: Seq, timestamps: T
     false
 }
 
-// The timestamps of a record after a take.
+// The new one of two if TSval is recorded, else the old one.
+fn stamp_if(recorded: bool, new: Stamp, old: Stamp) -> Stamp
+    ensures { λ r. ⌜ r ≡ cond recorded new old ⌝ }
+{
+    if recorded { new } else { old }
+}
+
+fn clock_if(recorded: bool, new: u64, old: u64) -> u64
+    ensures { λ r. ⌜ r ≡ cond recorded new old ⌝ }
+{
+    if recorded { new } else { old }
+}
+
+// The timestamps of a record after a take, built in one place: what is unchanged is then not copied.
 pub fn after(
     t: Timestamping,
     clock: u64,
@@ -142,14 +156,8 @@ pub fn after(
 ) -> Timestamping
     ensures { λ r. ⌜ r ≡ timestampingAfter t clock (acked .0) (seq .0) timestamps ⌝ }
 {
-    if are_recorded(t, clock, acked, seq, timestamps) {
-        let recent = value(timestamps);
-        Timestamping {
-            recent,
-            since: clock,
-            ..t
-        }
-    } else {
-        t
-    }
+    let recorded = are_recorded(t, clock, acked, seq, timestamps);
+    let recent = stamp_if(recorded, value(timestamps), t.recent);
+    let since = clock_if(recorded, clock, t.since);
+    Timestamping { recent, since, ..t }
 }

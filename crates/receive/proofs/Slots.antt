@@ -20,6 +20,10 @@ pub ranges-held : (l : List Range) → rangesOf (heldOf l) ≡ l
 unfolding rangesOf heldOf
 ranges-held l = take-append-seam l _
 
+pub none-held : (h : Held) → h .count ≡ 0 → rangesOf h ≡ []
+unfolding rangesOf
+none-held h none = rw none
+
 pub canonical-held : (l : List Range) → length l ≤ 8 → Canonical (heldOf l)
 unfolding heldOf
 canonical-held l h = record { few = h; form = ap heldOf (sym (ranges-held l)) }

@@ -1,25 +1,28 @@
 -- Taking a new part, and writing an acknowledgment, leave a sound receive side; an empty part leaves it as it was. Assumes nothing.
 use mathlib.Core.Bool.{Bool, true, false, cond, not, _&&_}
 use mathlib.Core.List.{List, _∷_}
-use mathlib.Core.Path.{_≡_, refl}
+use mathlib.Core.Path.{_≡_, refl, ap, _∙_}
 use Prim.Native.Nat.{ℕ, _+_, _-_, _%_, _^_, _≤_, _<_}
 use native.Mathlib.Nat.{mul-le-mul-left}
 use native.Mathlib.Omega.{arith}
 use lib.Dec.{eqb, ltb}
 use lib.Pow.{pow-mono}
 use borrow.Author.Tests.{eq-eqb, eqb-true, lt-leb, ltb-true, ne-eqb}
+use Rattle.serial.specs.Serial.{movedBy}
 use Rattle.serial.specs.declared.Range.{Range}
+use Rattle.receive.specs.declared.Held.{Held}
 use Rattle.receive.specs.declared.Part.{Part}
 use Rattle.receive.specs.declared.Receive.{Receive}
 use Rattle.laws.specs.Lists.{Each}
-use Rattle.receive.specs.Ranges.{isOutOfOrder, joined, leftOf, meets, noRoom, rangeOf, rangesAfter, rangesOf, unmet}
+use Rattle.receive.specs.Ranges.{heldOf, isOutOfOrder, joined, leftOf, meets, noRoom, rangeOf, rangesAfter, rangesOf, unmet}
 use Rattle.receive.specs.Sound.{Sound, SoundRanges}
 use Rattle.receive.specs.Taking.{acknowledged, advance, advanced, holding, taken}
 use Rattle.receive.specs.Window.{newPart}
+use Rattle.receive.specs.Internal.{movedOn}
 use Rattle.laws.proofs.Choices.{both-true, either}
 use Rattle.laws.proofs.Lists.{each-map, filter-none, filter-others}
 use Rattle.receive.proofs.Room.{near-leaves, room}
-use Rattle.receive.proofs.Slots.{canonical-held, ranges-held}
+use Rattle.receive.proofs.Slots.{canonical-held, none-held, ranges-held}
 use Rattle.receive.proofs.Soundness.{advanced-sound, joined-sound, joined-within}
 
 -- the new part lies in the window
@@ -91,6 +94,22 @@ module _ (r : Receive) (s : Sound r) where
     pub part-taken-sound : Sound (taken r p)
     unfolding taken
     part-taken-sound = either Sound (eqb (p .from) 0) _ _ (λ zero. advanced-keeps (eqb-true _ _ zero)) (λ _. holding-keeps)
+
+  -- where nothing is held, an advance absorbs nothing
+  pub advanced-alone : (p : Part) → r .held .count ≡ 0 → movedOn r (p .to) ≡ advanced r p
+  unfolding advanced movedOn joined
+  advanced-alone p alone =
+      let none = none-held (r .held) alone in
+      rw none (ap moved (s .canonical .form ∙ ap heldOf none))
+    where
+      moved : Held → Receive
+      moved held = record {
+        nxt = record { 0 = movedBy (r .nxt .0) (p .to) };
+        window = r .window - p .to;
+        shift = r .shift;
+        acked = r .acked;
+        held = held;
+      }
 
   pub holding-near : (p : Part) → isOutOfOrder p ≡ false → holding r p ≡ r
   unfolding holding

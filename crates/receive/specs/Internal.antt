@@ -1,11 +1,13 @@
 -- What the contracts of private functions cite. No promise of the crate rests on these.
 use mathlib.Core.Bool.{cond}
 use mathlib.Core.List.{List, _∷_}
-use Prim.Native.Nat.{ℕ}
+use Prim.Native.Nat.{ℕ, _-_}
 use lib.Dec.{ltb}
 use lib.ListN.{length}
+use Rattle.serial.specs.Serial.{movedBy}
 use Rattle.serial.specs.declared.Range.{Range}
 use Rattle.receive.specs.declared.Part.{Part}
+use Rattle.receive.specs.declared.Receive.{Receive}
 use Rattle.receive.specs.declared.ranges.Absorbed.{Absorbed}
 use Rattle.receive.specs.Ranges.{heldOf, joined, unmet}
 
@@ -16,3 +18,13 @@ absorbedOf nxt p ranges = record { part = joined nxt p ranges; rest = heldOf (un
 -- a range put first, where a slot is left for it
 unfoldable pub withFirst : Range → List Range → List Range
 withFirst r ranges = cond (ltb (length ranges) 8) (r ∷ ranges) ranges
+
+-- RCV.NXT moved on, with the right window edge where it was
+unfoldable pub movedOn : Receive → ℕ → Receive
+movedOn r octets = record {
+  nxt = record { 0 = movedBy (r .nxt .0) octets };
+  window = r .window - octets;
+  shift = r .shift;
+  acked = r .acked;
+  held = r .held;
+}

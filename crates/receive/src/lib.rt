@@ -6,12 +6,11 @@ mod window;
 ghost use mathlib.Core.Bool.{true};
 ghost use mathlib.Core.Path.{_≡_};
 ghost use Prim.Native.Nat.{_≤_};
-ghost use Rattle.receive.specs.Ranges.{isOutOfOrder, rangesOf};
+ghost use Rattle.receive.specs.Ranges.{isOutOfOrder};
 ghost use Rattle.receive.specs.Sound.{Sound};
 ghost use Rattle.receive.specs.Taking.{advanced, holding, taken};
-ghost use Rattle.receive.specs.Internal.{absorbedOf};
+ghost use Rattle.receive.specs.Internal.{movedOn};
 ghost use Rattle.receive.specs.Window.{acceptable, finInside, isWindowRefused, lacksRoom, newPart, numberOf, opened, shown, windowOpened};
-use ranges::Absorbed;
 use serial::Range;
 use serial::Seq;
 
@@ -26,7 +25,7 @@ pub struct Receive {
     pub nxt: Seq,
     // The receive window, and the shift by which it is written.
     pub window: u32,
-    pub shift: u8,
+    pub shift: u32,
     // Last.ACK.sent.
     pub acked: Seq,
     pub held: Held,
@@ -65,7 +64,7 @@ impl WindowOutcome {
 
 impl Receive {
     // A receive side at its opening.
-    pub fn new(nxt: Seq, window: u32, shift: u8) -> Receive
+    pub fn new(nxt: Seq, window: u32, shift: u32) -> Receive
         ensures { λ r. ⌜ r ≡ opened (nxt .0) window shift ⌝ }
     {
         let held = ranges::none();
@@ -146,12 +145,11 @@ impl Receive {
         ensures sound { λ r. ⌜ Sound r ⌝ }
     {
         let part = self.new_part(seq, len);
-        let absorbed = ranges::absorb(self.held, self.nxt, part);
         if part.from == 0 {
-            return self.advanced(absorbed);
+            return self.advanced(part);
         }
         if ranges::is_out_of_order(part) {
-            return self.holding(absorbed);
+            return self.holding(part);
         }
         self
     }
@@ -185,28 +183,42 @@ impl Receive {
         65535u32 << self.shift < window
     }
 
-    // RCV.NXT moved to the end of what was absorbed; the right window edge stays.
-    fn advanced(self, absorbed: Absorbed) -> Receive
-        requires { ⌜ absorbed .part .to ≤ self .window ⌝ }
-        ensures { λ r. ⌜ ((p : Part) → absorbed ≡ absorbedOf (self .nxt .0) p (rangesOf (self .held)) → r ≡ advanced self p) ⌝ }
+    // RCV.NXT moved on; the right window edge stays.
+    fn moved_on(self, octets: u32) -> Receive
+        requires { ⌜ octets ≤ self .window ⌝ }
+        ensures { λ r. ⌜ r ≡ movedOn self octets ⌝ }
     {
-        let octets = absorbed.part.to;
         let nxt = self.nxt.moved(octets);
         let window = self.window - octets;
-        let held = absorbed.rest;
         Receive {
             nxt,
             window,
-            held,
             ..self
         }
     }
 
-    // What was absorbed, put first among the other ranges.
-    fn holding(self, absorbed: Absorbed) -> Receive
+    // RCV.NXT moved to the end of the part and of the ranges that it meets, which leave.
+    fn advanced(self, part: Part) -> Receive
         requires { ⌜ Sound self ⌝ }
-        ensures { λ r. ⌜ ((p : Part) → isOutOfOrder p ≡ true → absorbed ≡ absorbedOf (self .nxt .0) p (rangesOf (self .held)) → r ≡ holding self p) ⌝ }
+        requires { ⌜ part .to ≤ self .window ⌝ }
+        ensures { λ r. ⌜ r ≡ advanced self part ⌝ }
     {
+        // Where nothing is held, the ranges are not touched: this is the way of the usual segment.
+        if self.held.count == 0 {
+            return self.moved_on(part.to);
+        }
+        let absorbed = ranges::absorb(self.held, self.nxt, part);
+        let next = self.moved_on(absorbed.part.to);
+        let held = absorbed.rest;
+        Receive { held, ..next }
+    }
+
+    // The part joined with the ranges that it meets, put first among the others.
+    fn holding(self, part: Part) -> Receive
+        requires { ⌜ Sound self ⌝ }
+        ensures { λ r. ⌜ (isOutOfOrder part ≡ true → r ≡ holding self part) ⌝ }
+    {
+        let absorbed = ranges::absorb(self.held, self.nxt, part);
         let range = ranges::range_of(self.nxt, absorbed.part);
         let held = ranges::put_first(absorbed.rest, range);
         Receive { held, ..self }

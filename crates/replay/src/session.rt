@@ -2,11 +2,7 @@
 ghost use Rattle.connection.specs.Record.{Sound};
 use connection::Connection;
 use connection::OpenAnswer;
-use connection::Setup;
-use offers::Offers;
-use offers::Scale;
 use rto::Timer;
-use serial::Seq;
 
 pub struct Session {
     // Whether a record has been opened; until then the connection is a blank one.
@@ -25,20 +21,7 @@ pub struct Step {
 pub fn new() -> Session
     ensures { λ r. ⌜ Sound (r .connection) ⌝ }
 {
-    let offers = Offers {
-        scale: Scale::Absent,
-        timestamps: false,
-        sack: false,
-    };
-    let setup = Setup {
-        iss: Seq(0),
-        offers,
-        window: 0,
-        offset: 0,
-    };
-    // No octets are no SYN: the opening is refused, and its record is the blank one.
-    let refused = Connection::open(setup, 0, &[]);
-    let connection = refused.connection;
+    let connection = Connection::blank();
     let timer = Timer::new();
     Session {
         open: false,

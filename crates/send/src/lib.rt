@@ -13,7 +13,7 @@ pub struct Send {
     pub nxt: Seq,
     // SND.WND, and the shift by which the peer writes it.
     pub window: u32,
-    pub shift: u8,
+    pub shift: u32,
     // SEQ and ACK of the segment that last set the window.
     pub wl1: Seq,
     pub wl2: Seq,
@@ -53,7 +53,7 @@ impl SentOutcome {
 
 impl Send {
     // A send side at its opening by the peer's SYN, which has the ACK flag or not.
-    pub fn new(iss: Seq, shift: u8, syn: Seg, flag: bool) -> Send
+    pub fn new(iss: Seq, shift: u32, syn: Seg, flag: bool) -> Send
         ensures { λ r. ⌜ r ≡ opened (iss .0) shift syn flag ⌝ }
     {
         let nxt = iss.moved(1);

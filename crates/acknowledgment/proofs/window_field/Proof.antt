@@ -1,12 +1,9 @@
--- `acknowledgment::window_field` meets its contract. Assumes nothing.
+-- The window without its low bits, cut at 65,535. Assumes nothing.
 use native.Mathlib.Omega.{arith}
 use borrow.Author.Needs.{needs}
 use Rattle.acknowledgment.specs.Acknowledgment.{windowField}
 use Rattle.acknowledgment.proofs.window_field.Statement.{statement}
 use Rattle.acknowledgment.proofs.window_field.Tie as tie
-
-cast-scaled : tie.Need-cast-scaled
-cast-scaled c = search needs
 
 shr-scaled : tie.Need-shr-scaled
 shr-scaled c = search needs
@@ -23,4 +20,4 @@ unfolding windowField
 returns-2 c = omega arith
 
 pub window-field-spec : {M : Type 1} → statement M
-window-field-spec = tie.close (tie.spec cast-scaled shr-scaled cast-result returns returns-2)
+window-field-spec = tie.close (tie.spec shr-scaled cast-result returns returns-2)

@@ -38,7 +38,7 @@ unfolding arriving Option·elim
 returns-2 c =
     let a = c .before .before .before .before .before .before .args in
     let read = sym (c .before .before .before .before .read .ensures) ∙ ap segment.shown (c .before .before .reading2 .given .1) in
-    let is : shown (c .arrive-read .result) ≡ arriving (a .self) (a .clock) (now (a .segment)) = rw read (c .arrive-read .ensures) in
+    let is : shown (c .arrive-read .result) ≡ arriving (a .self) (a .clock) (now (a .segment)) = rw read (c .arrive-read .ensures .0) in
     (is, as-arrived _ _ is (arriving-sound (a .self) (c .before .before .before .before .before .before .pre) (a .clock) (now (a .segment))))
 
 pub arrive-spec : {M : Type 1} → statement M

@@ -1,19 +1,27 @@
--- E8, or what the table decided.
+-- E8, or what the table decided; what it gives back is sound.
 -- Assumes nothing.
-use mathlib.Core.Path.{sym, ap, _∙_}
+use mathlib.Core.Path.{_≡_, sym, ap, _∙_}
 use borrow.Author.Tests.{le-ltb, lt-ltb}
 use Rattle.connection.specs.Numbers.{Decision}
-use Rattle.connection.specs.Arriving.{arrivingRead, isTake, judged, settled, unchanged}
+use Rattle.connection.specs.declared.Arrival as declared
+use Rattle.connection.specs.Record.{Sound}
+use Rattle.connection.specs.Arriving.{arrivingRead, isTake, judged, settled, shown, unchanged}
+use Rattle.connection.proofs.Keeping.{arriving-read-sound, as-arrived}
 use borrow.Author.Needs.{needs}
 use Rattle.connection.proofs.Connection.arrive_read.Statement.{statement}
 use Rattle.connection.proofs.Connection.arrive_read.Tie as tie
+
+-- the answer, and that its record is sound
+answered : (c : tie.Start) (r : declared.Arrival) → let a = c .args in shown r ≡ arrivingRead (a .self) (a .clock) (a .s)
+    → (shown r ≡ arrivingRead (a .self) (a .clock) (a .s)) × Sound (r .connection)
+answered c r is = let a = c .args in (is, as-arrived _ _ is (arriving-read-sound (a .self) (c .pre) (a .clock) (a .s)))
 
 unchanged-requires : tie.Need-unchanged-requires
 unchanged-requires c κs = search needs
 
 returns : tie.Need-returns
 unfolding arrivingRead judged settled
-returns c = rw (lt-ltb _ _ (c .before .if1 .taken)) (c .unchanged .ensures)
+returns c = answered (c .before .before .before) (c .unchanged .result) (rw (lt-ltb _ _ (c .before .if1 .taken)) (c .unchanged .ensures))
 
 judge-requires : tie.Need-judge-requires
 judge-requires c κs = search needs
@@ -29,7 +37,8 @@ unfolding arrivingRead judged settled
 returns-2 c =
     let decision = ap (λ (d : Decision). isTake (d .answer)) (sym (c .before .before .before .judge .ensures)) in
     let takes = decision ∙ (sym (c .before .before .is-take .ensures) ∙ c .before .if2 .taken) in
-    rw (le-ltb _ _ (c .before .before .before .before .if1 .left), takes) (c .take .ensures)
+    answered (c .before .before .before .before .before .before) (c .take .result)
+    (rw (le-ltb _ _ (c .before .before .before .before .if1 .left), takes) (c .take .ensures))
 
 unchanged-requires-2 : tie.Need-unchanged-requires-2
 unchanged-requires-2 c κs = search needs
@@ -40,7 +49,8 @@ returns-3 c =
     let decision = ap (λ (d : Decision). isTake (d .answer)) (sym (c .before .before .before .judge .ensures)) in
     let drops = decision ∙ (sym (c .before .before .is-take .ensures) ∙ c .before .if2 .left) in
     let is = c .unchanged2 .ensures ∙ ap (unchanged (c .before .before .before .before .before .before .args .self)) (c .before .before .before .judge .ensures) in
-    rw (le-ltb _ _ (c .before .before .before .before .if1 .left), drops) is
+    answered (c .before .before .before .before .before .before) (c .unchanged2 .result)
+    (rw (le-ltb _ _ (c .before .before .before .before .if1 .left), drops) is)
 
 pub arrive-read-spec : {M : Type 1} → statement M
 arrive-read-spec =

@@ -8,11 +8,17 @@ use Rattle.connection.proofs.opening.record_with.Tie as tie
 moved-requires : tie.Need-moved-requires
 moved-requires c κs = search needs
 
+cast-new : tie.Need-cast-new
+cast-new c = search needs
+
 new-requires : tie.Need-new-requires
 new-requires c κs = search needs
 
 seg-of-requires : tie.Need-seg-of-requires
 seg-of-requires c κs = search needs
+
+cast-new-2 : tie.Need-cast-new-2
+cast-new-2 c = search needs
 
 new-requires-2 : tie.Need-new-requires-2
 new-requires-2 c κs = search needs
@@ -29,12 +35,16 @@ new-requires-3 c κs = search needs
 returns : tie.Need-returns
 unfolding recordWith
 returns c =
+    let opened = c .before .before in
+    let send = opened .before in
+    let seg = send .before .before in
+    let receive = seg .before in
     rw (
-      c .before .before .before .before .before .new .ensures,
-      c .before .before .before .before .before .before .moved .ensures,
-      c .before .before .before .new2 .ensures,
-      c .before .before .before .before .seg-of .ensures,
-      c .before .before .opened .ensures,
+      receive .new .ensures,
+      receive .before .before .moved .ensures,
+      send .new2 .ensures,
+      seg .seg-of .ensures,
+      opened .opened .ensures,
       c .before .mss .ensures,
       c .new3 .ensures,
     )
@@ -44,8 +54,10 @@ record-with-spec =
     tie.close
     (tie.spec
     moved-requires
+    cast-new
     new-requires
     seg-of-requires
+    cast-new-2
     new-requires-2
     opened-requires
     mss-requires

@@ -11,9 +11,6 @@ returns : tie.Need-returns
 unfolding isWindowRefused
 returns c = rw (lt-ltb _ _ (c .if1 .taken))
 
-cast-result : tie.Need-cast-result
-cast-result c = search needs
-
 shl-result : tie.Need-shl-result
 shl-result c = search needs
 
@@ -25,4 +22,4 @@ returns-2 c =
     rw (le-ltb _ _ (c .before .if1 .left), exact)
 
 pub refuses-spec : {M : Type 1} → statement M
-refuses-spec = tie.close (tie.spec returns cast-result shl-result returns-2)
+refuses-spec = tie.close (tie.spec returns shl-result returns-2)

@@ -2,28 +2,21 @@
 use mathlib.Core.Path.{_≡_, sym, ap, _∙_}
 use borrow.Author.Needs.{needs}
 use Rattle.receive.specs.declared.Receive.{Receive}
-use Rattle.receive.specs.Ranges.{rangesOf}
 use Rattle.receive.specs.Sound.{Sound}
 use Rattle.receive.specs.Taking.{taken}
 use Rattle.receive.specs.Window.{newPart}
-use Rattle.receive.proofs.Absorbing.{part-is}
-use Rattle.receive.proofs.Taken.{advance-within, holding-near, part-within, taken-first, taken-later, taken-sound}
+use Rattle.receive.proofs.Taken.{holding-near, part-within, taken-first, taken-later, taken-sound}
 use Rattle.receive.proofs.Receive.take.Statement.{statement}
 use Rattle.receive.proofs.Receive.take.Tie as tie
 
 new-part-requires : tie.Need-new-part-requires
 new-part-requires c κs = search needs
 
-absorb-requires : tie.Need-absorb-requires
-absorb-requires c κs = search needs
-
 advanced-requires : tie.Need-advanced-requires
 advanced-requires c κs =
-    let absorb = c .before .before in
-    let part = absorb .before in
+    let part = c .before .before in
     let a = part .before .args in
-    rw (part-is (a .self .nxt .0) (part .new-part .result) (rangesOf (a .self .held)) (absorb .absorb .result) (absorb .absorb .ensures), part .new-part .ensures)
-    (advance-within (a .self) (part .before .pre) (newPart (a .self) (a .seq .0) (a .len)) (part-within (a .self) (a .seq .0) (a .len)))
+    (part .before .pre, rw (part .new-part .ensures) (part-within (a .self) (a .seq .0) (a .len)))
 
 -- what the part that `new_part` gives leaves
 settled : (c : tie.After-new-part) (t : Receive) → let a = c .before .args in t ≡ taken (a .self) (c .new-part .result)
@@ -34,11 +27,7 @@ settled c t e =
     (is, rw is (taken-sound (a .self) (a .seq .0) (a .len) (c .before .pre)))
 
 returns : tie.Need-returns
-returns c =
-    let absorb = c .before .before .before in
-    let part = absorb .before in
-    settled part (c .advanced .result)
-    (c .advanced .ensures (part .new-part .result) (absorb .absorb .ensures) ∙ sym (taken-first _ _ (c .before .if1 .taken)))
+returns c = settled (c .before .before .before) (c .advanced .result) (c .advanced .ensures ∙ sym (taken-first _ _ (c .before .if1 .taken)))
 
 is-out-of-order-requires : tie.Need-is-out-of-order-requires
 is-out-of-order-requires c κs = search needs
@@ -49,16 +38,13 @@ holding-requires c κs = search needs
 returns-2 : tie.Need-returns-2
 returns-2 c =
     let later = c .before .before .before in
-    let absorb = later .before .before in
-    let part = absorb .before in
     let beyond = sym (c .before .before .is-out-of-order .ensures) ∙ c .before .if2 .taken in
-    settled part (c .holding .result)
-    (c .holding .ensures (part .new-part .result) beyond (absorb .absorb .ensures) ∙ sym (taken-later _ _ (later .if1 .left)))
+    settled (later .before .before) (c .holding .result) (c .holding .ensures beyond ∙ sym (taken-later _ _ (later .if1 .left)))
 
 returns-3 : tie.Need-returns-3
 returns-3 c =
     let later = c .before .before in
-    let part = later .before .before .before in
+    let part = later .before .before in
     let self = part .before .args .self in
     let near = sym (c .before .is-out-of-order .ensures) ∙ c .if2 .left in
     settled part self (sym (taken-later _ _ (later .if1 .left) ∙ holding-near self (part .before .pre) (part .new-part .result) near))
@@ -68,7 +54,6 @@ take-spec =
     tie.close
     (tie.spec
     new-part-requires
-    absorb-requires
     advanced-requires
     returns
     is-out-of-order-requires

@@ -8,9 +8,6 @@ use Rattle.send.proofs.Send.windowed.Tie as tie
 cast-window : tie.Need-cast-window
 cast-window c = search needs
 
-cast-window-2 : tie.Need-cast-window-2
-cast-window-2 c = search needs
-
 shl-window : tie.Need-shl-window
 shl-window c = search needs
 
@@ -21,4 +18,4 @@ returns c =
     rw (shl-exact {a = a .seg .window} 16 (a .self .shift) 32 (search needs) (search needs))
 
 pub windowed-spec : {M : Type 1} → statement M
-windowed-spec = tie.close (tie.spec cast-window cast-window-2 shl-window returns)
+windowed-spec = tie.close (tie.spec cast-window shl-window returns)
