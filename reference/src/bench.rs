@@ -14,6 +14,16 @@ use rounds::Measured;
 /// The most octets that the prepared and the measured calls have together.
 const MAX_STREAM: usize = 262_144;
 
+/// A stream of these calls, and the orders after it.
+pub fn stream(prepared: &[u8], measured: &[u8], orders: &[u32]) -> Vec<u8> {
+    let lengths = [prepared.len(), measured.len()].map(|length| length as u32);
+    let mut stream = lengths.map(u32::to_be_bytes).concat();
+    stream.extend_from_slice(prepared);
+    stream.extend_from_slice(measured);
+    stream.extend(orders.iter().flat_map(|rounds| rounds.to_be_bytes()));
+    stream
+}
+
 /// Reads a stream, then answers each order as soon as it is there.
 pub fn bench(input: &mut impl Read, output: &mut impl Write) -> io::Result<()> {
     match read_stream(input)? {
@@ -64,7 +74,10 @@ fn prepare_by(call: &Call, record: &mut Option<Connection>) -> Result<(), Bad> {
         (Call::Sent { count }, Some(connection)) => {
             let _ = connection.note_sent(count);
         }
-        (Call::Arrive { .. } | Call::Sent { .. }, None) => {}
+        (Call::Window { window }, Some(connection)) => {
+            let _ = connection.open_window(window);
+        }
+        (Call::Arrive { .. } | Call::Sent { .. } | Call::Window { .. }, None) => {}
         _ => return Err(Bad),
     }
     Ok(())

@@ -15,7 +15,7 @@ use reference::timer_list::TimerCall;
 use reference::timer_run::{own_rtos, rtos_of_program};
 use reference::{stored, timer_run};
 
-const USAGE: &str = "usage: reference play | script | count | bench | \
+const USAGE: &str = "usage: reference play | script | count | stream | bench | \
                      timer CALLS SEED [PROGRAM] | compare COUNT SEED [PROGRAM]";
 const DEFAULT_PROGRAM: &str = "target/bin/replay";
 
@@ -38,6 +38,7 @@ fn run(words: &[&str]) -> io::Result<ExitCode> {
     match *words {
         ["play"] => write_output(play(&read_input()?).as_bytes()),
         ["script"] => write_output(&stored::script()),
+        ["stream"] => write_output(&stored::stream()),
         ["count"] => print(&Counts::of(&read_input()?)),
         ["bench"] => run_bench(),
         ["timer", calls, seed] => run_timer(calls, seed, |list| Ok(own_rtos(list))),

@@ -19,15 +19,6 @@ fn script(calls: &[Call]) -> Vec<u8> {
     script
 }
 
-fn stream(prepared: &[u8], measured: &[u8], orders: &[u32]) -> Vec<u8> {
-    let lengths = [prepared.len(), measured.len()].map(|length| length as u32);
-    let mut stream = lengths.map(u32::to_be_bytes).concat();
-    stream.extend_from_slice(prepared);
-    stream.extend_from_slice(measured);
-    stream.extend(orders.iter().flat_map(|rounds| rounds.to_be_bytes()));
-    stream
-}
-
 fn answers(mut stream: &[u8]) -> String {
     let mut output = Vec::new();
     bench(&mut stream, &mut output).unwrap();
@@ -186,8 +177,8 @@ fn a_refused_opening_leaves_the_record() {
 
 #[test]
 fn bad_streams() {
-    let window = script(&[Call::Window { window: 65_535 }]);
-    assert_eq!(answers(&stream(&window, &[], &[1])), "bad\n");
+    let expiry = script(&[Call::Expire]);
+    assert_eq!(answers(&stream(&expiry, &[], &[1])), "bad\n");
     assert_eq!(answers(&stream(&opened()[..9], &[], &[1])), "bad\n");
     let whole = stream(&opened(), &arrivals(&[data(5_000, 1)]), &[]);
     for length in 0..whole.len() {

@@ -1,4 +1,4 @@
-//! The stored script: the examples of RFC 2018, the marked cases, both sides of every limit, random calls.
+//! The stored script: the examples of RFC 2018, the marked cases, both sides of every limit, random calls; and the stored stream.
 
 mod acknowledging;
 mod calls;
@@ -9,6 +9,7 @@ mod ranges;
 mod reading;
 mod rfc2018;
 mod sending;
+mod stream;
 mod taking;
 mod timers;
 mod unopened;
@@ -18,6 +19,8 @@ use crate::generate::Generator;
 use crate::random::Random;
 
 use self::calls::CallList;
+
+pub use self::stream::stream;
 
 const RANDOM_CALLS: usize = 1_200;
 const RANDOM_SEED: u64 = 7_323;

@@ -1,0 +1,102 @@
+// The record that every round starts from.
+ghost use mathlib.Core.Path.{_≡_};
+ghost use Rattle.connection.specs.Record.{Sound};
+use crate::segments;
+use crate::stream;
+use connection::Connection;
+use connection::Setup;
+use offers::Offers;
+use offers::Scale;
+use serial::Seq;
+
+pub struct Prepared {
+    pub connection: Connection,
+    // Whether a call was none of those that prepare a record.
+    pub bad: bool,
+}
+
+// Makes the prepared calls, from the start of the stream up to `end`.
+pub fn prepare(octets: &[u8], end: usize) -> Prepared
+    ensures { λ r. ⌜ Sound (r .connection) ⌝ }
+{
+    let mut connection = Connection::blank();
+    let mut bad = false;
+    let mut at = 0;
+    while at < end {
+        let next = stream::next(octets, at, end);
+        let prepared = make_one(connection, octets, at, next);
+        connection = prepared.connection;
+        bad = bad || prepared.bad;
+        at = next;
+    }
+    Prepared { connection, bad }
+}
+
+fn make_one(k: Connection, octets: &[u8], at: usize, next: usize) -> Prepared
+    requires { ⌜ Sound k ⌝ }
+    ensures { λ r. ⌜ Sound (r .connection) ⌝ }
+{
+    let call = octets::read_u8(octets, at);
+    match call {
+        4 | 5 => {
+            let made = segments::make(k, octets, at, next, call);
+            let connection = made.connection;
+            good(connection)
+        }
+        6 => {
+            let answer = k.note_sent(octets::read_u32(stream::part(octets, at, 5, next), 0));
+            let connection = answer.connection;
+            good(connection)
+        }
+        7 => {
+            let answer = k.open_window(octets::read_u32(stream::part(octets, at, 5, next), 0));
+            let connection = answer.connection;
+            good(connection)
+        }
+        _ => Prepared {
+            connection: k,
+            bad: true,
+        },
+    }
+}
+
+fn good(connection: Connection) -> Prepared
+    requires { ⌜ Sound connection ⌝ }
+    ensures { λ r. ⌜ Sound (r .connection) ⌝ }
+{
+    Prepared {
+        connection,
+        bad: false,
+    }
+}
+
+// What an opening is given, from the body of its call.
+pub fn setup(body: &[u8]) -> Setup {
+    let iss = Seq(octets::read_u32(body, 0));
+    let offers = offers(octets::read_u8(body, 4), octets::read_u8(body, 5));
+    let window = octets::read_u32(body, 6);
+    let offset = octets::read_u32(body, 10);
+    Setup {
+        iss,
+        offers,
+        window,
+        offset,
+    }
+}
+
+// Offers by their bits: 0 timestamps, 1 SACK, 2 window scale.
+fn offers(shift: u8, bits: u8) -> Offers {
+    let scale = scale(shift, bits / 4 % 2 == 1);
+    Offers {
+        scale,
+        timestamps: bits % 2 == 1,
+        sack: bits / 2 % 2 == 1,
+    }
+}
+
+fn scale(shift: u8, offered: bool) -> Scale {
+    if offered {
+        return Scale::Shift(shift);
+    }
+    Scale::Absent
+}
