@@ -1,5 +1,5 @@
 // Calls that write an acknowledgment: 8.
-ghost use mathlib.Core.Path.{_≡_};
+ghost use Prim.Native.Nat.{_≤_};
 ghost use lib.ListN.{length};
 ghost use Rattle.connection.specs.Record.{Sound};
 use crate::rounds::Made;
@@ -12,6 +12,7 @@ use segment::Ports;
 // Writes the acknowledgments from one place of the stream up to another, each into its call's own buffer.
 pub fn make(connection: Connection, octets: &mut [u8], from: usize, end: usize) -> Made
     requires { ⌜ Sound connection ⌝ }
+    requires { ⌜ end ≤ length (now octets) ⌝ }
     ensures { λ r. ⌜ Sound (r .connection) ⌝ }
 {
     let mut k = connection;
@@ -29,10 +30,11 @@ pub fn make(connection: Connection, octets: &mut [u8], from: usize, end: usize) 
 
 fn make_one(k: Connection, octets: &mut [u8], at: usize, next: usize) -> Made
     requires { ⌜ Sound k ⌝ }
+    requires { ⌜ (at ≤ next) × (next ≤ length (now octets)) ⌝ }
     ensures { λ r. ⌜ Sound (r .connection) ⌝ }
 {
     let ports = ports(stream::part(octets, at, 5, next));
-    let clock = stream::read_u64(octets, at, 9);
+    let clock = stream::read_u64(octets, at, 9, next);
     let answer = acknowledgment::write(k, ports, clock, stream::part_mut(octets, at, 17, next));
     let outcome = answer.outcome;
     let connection = answer.connection;

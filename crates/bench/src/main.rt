@@ -6,6 +6,8 @@ mod segments;
 mod stream;
 mod sums;
 
+ghost use Prim.Native.Nat.{_≤_};
+ghost use lib.ListN.{length};
 ghost use Rattle.connection.specs.Record.{Sound};
 use connection::Connection;
 use libc::STDIN_FILENO;
@@ -32,6 +34,7 @@ fn run(octets: &mut [u8]) {
 // A proved loop has to end, so it counts down from a number that no input uses up.
 fn answer_orders(connection: Connection, octets: &mut [u8], extent: Extent)
     requires { ⌜ Sound connection ⌝ }
+    requires { ⌜ extent .end ≤ length (now octets) ⌝ }
 {
     let mut orders = u64::MAX;
     while 0 < orders {

@@ -1,5 +1,6 @@
 // The record that every round starts from.
-ghost use mathlib.Core.Path.{_≡_};
+ghost use Prim.Native.Nat.{_≤_};
+ghost use lib.ListN.{length};
 ghost use Rattle.connection.specs.Record.{Sound};
 use crate::segments;
 use crate::stream;
@@ -17,6 +18,7 @@ pub struct Prepared {
 
 // Makes the prepared calls, from the start of the stream up to `end`.
 pub fn prepare(octets: &[u8], end: usize) -> Prepared
+    requires { ⌜ end ≤ length (now octets) ⌝ }
     ensures { λ r. ⌜ Sound (r .connection) ⌝ }
 {
     let mut connection = Connection::blank();
@@ -34,6 +36,7 @@ pub fn prepare(octets: &[u8], end: usize) -> Prepared
 
 fn make_one(k: Connection, octets: &[u8], at: usize, next: usize) -> Prepared
     requires { ⌜ Sound k ⌝ }
+    requires { ⌜ (at ≤ next) × (next ≤ length (now octets)) ⌝ }
     ensures { λ r. ⌜ Sound (r .connection) ⌝ }
 {
     let call = octets::read_u8(octets, at);

@@ -1,5 +1,6 @@
 // Rounds: the measured calls of a stream, made again and again from the record as prepared.
-ghost use mathlib.Core.Path.{_≡_};
+ghost use Prim.Native.Nat.{_≤_};
+ghost use lib.ListN.{length};
 ghost use Rattle.connection.specs.Record.{Sound};
 use crate::acknowledging;
 use crate::segments;
@@ -16,6 +17,7 @@ pub struct Made {
 // The sum of so many rounds.
 pub fn sum_of(connection: Connection, octets: &mut [u8], extent: Extent, rounds: u32) -> u64
     requires { ⌜ Sound connection ⌝ }
+    requires { ⌜ extent .end ≤ length (now octets) ⌝ }
 {
     let mut sum = 0;
     let mut left = rounds;
@@ -29,6 +31,7 @@ pub fn sum_of(connection: Connection, octets: &mut [u8], extent: Extent, rounds:
 // The sum of one round; its first call says of which kind all are.
 fn round(connection: Connection, octets: &mut [u8], extent: Extent) -> u64
     requires { ⌜ Sound connection ⌝ }
+    requires { ⌜ extent .end ≤ length (now octets) ⌝ }
 {
     let from = extent.prepared;
     let end = extent.end;

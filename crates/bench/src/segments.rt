@@ -1,6 +1,7 @@
 // Calls that hand in a segment: 1 read, 4 open, 5 arrive. All of them read it at one place, so that the compiler puts the reading, and
 // what is done with it, into the loop.
-ghost use mathlib.Core.Path.{_≡_};
+ghost use Prim.Native.Nat.{_≤_};
+ghost use lib.ListN.{length};
 ghost use Rattle.connection.specs.Record.{Sound};
 use crate::preparing;
 use crate::rounds::Made;
@@ -13,6 +14,7 @@ use segment::Segment;
 // Makes the calls from one place of the stream up to another, all of one kind, each on the record that the one before left.
 pub fn make(connection: Connection, octets: &[u8], from: usize, end: usize, call: u8) -> Made
     requires { ⌜ Sound connection ⌝ }
+    requires { ⌜ end ≤ length (now octets) ⌝ }
     ensures { λ r. ⌜ Sound (r .connection) ⌝ }
 {
     let skip = fixed_octets(call);
@@ -34,7 +36,7 @@ pub fn make(connection: Connection, octets: &[u8], from: usize, end: usize, call
                     k = open(k, octets, at, next, s);
                 }
                 _ => {
-                    let arrival = k.arrive_read(stream::read_u64(octets, at, 5), s);
+                    let arrival = k.arrive_read(stream::read_u64(octets, at, 5, next), s);
                     sum = sums::add(sum, sums::arrival(arrival));
                     k = arrival.connection;
                 }
@@ -57,9 +59,10 @@ fn fixed_octets(call: u8) -> usize {
 // The record that is opened, or the one before where the opening is refused.
 fn open(k: Connection, octets: &[u8], at: usize, next: usize, syn: Segment) -> Connection
     requires { ⌜ Sound k ⌝ }
+    requires { ⌜ (at ≤ next) × (next ≤ length (now octets)) ⌝ }
     ensures { λ r. ⌜ Sound r ⌝ }
 {
-    let clock = stream::read_u64(octets, at, 19);
+    let clock = stream::read_u64(octets, at, 19, next);
     let setup = preparing::setup(stream::part(octets, at, 5, next));
     let answer = Connection::open_read(setup, clock, syn);
     let outcome = answer.outcome;

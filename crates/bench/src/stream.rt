@@ -4,9 +4,6 @@ ghost use Prim.Native.Nat.{_+_, _≤_, _<_};
 ghost use lib.ListN.{length};
 use libc::STDIN_FILENO;
 
-// The most octets of a stream's calls.
-const MAX_STREAM: usize = 262_144;
-
 // Where the prepared calls end, which start at 0, and where the measured ones do, which follow them.
 pub struct Extent {
     pub prepared: usize,
@@ -15,7 +12,7 @@ pub struct Extent {
     pub bad: bool,
 }
 
-// Room for a stream.
+// Room for the most octets that a stream has.
 pub fn space() -> [u8; 262144]
     ensures { λ r. ⌜ 262144 ≡ length r ⌝ }
 {
@@ -23,7 +20,9 @@ pub fn space() -> [u8; 262144]
 }
 
 // Reads a stream, and puts its calls at the start of `octets`.
-pub fn load(octets: &mut [u8]) -> Extent {
+pub fn load(octets: &mut [u8]) -> Extent
+    ensures { λ r. ⌜ (r .prepared ≤ r .end) × (r .end ≤ length (now (octets .exit))) ⌝ }
+{
     let mut head = [0u8; 8];
     let got = io::read_full(STDIN_FILENO, &mut head);
     let prepared = octets::read_u32(&head, 0) as usize;
@@ -44,7 +43,9 @@ pub fn load(octets: &mut [u8]) -> Extent {
     }
 }
 
-fn no_stream() -> Extent {
+fn no_stream() -> Extent
+    ensures { λ r. ⌜ (r .prepared ≡ 0) × (r .end ≡ 0) ⌝ }
+{
     Extent {
         prepared: 0,
         end: 0,
@@ -54,51 +55,44 @@ fn no_stream() -> Extent {
 
 // Where the body of the call at `at` ends, or `end` where that lies before.
 pub fn next(octets: &[u8], at: usize, end: usize) -> usize
-    requires { ⌜ at < end ⌝ }
-    ensures { λ r. ⌜ at < r ⌝ }
+    requires { ⌜ (at < end) × (end ≤ length (now octets)) ⌝ }
+    ensures { λ r. ⌜ (at < r) × (r ≤ end) ⌝ }
 {
-    let length = octets::read_u32(octets, at + 1) as usize;
-    if end - at <= length + 5 {
+    if end - at < 5 {
         return end;
     }
-    at + length + 5
+    let length = four(octets, at + 1) as usize;
+    if end - at - 5 < length {
+        return end;
+    }
+    at + 5 + length
 }
 
-// The call at `at` without its first octets, up to `next`; nothing where these are no places of a call.
-pub fn part(octets: &[u8], at: usize, skip: usize, next: usize) -> &[u8] {
-    if octets.len() < next {
-        return &octets[0..0];
-    }
-    if next < at {
-        return &octets[0..0];
-    }
+// The call from `at` up to `next` without its first octets; nothing where it has not so many.
+pub fn part(octets: &[u8], at: usize, skip: usize, next: usize) -> &[u8]
+    requires { ⌜ (at ≤ next) × (next ≤ length (now octets)) ⌝ }
+{
     if next - at < skip {
         return &octets[0..0];
     }
     &octets[at + skip..next]
 }
 
-pub fn part_mut(octets: &mut [u8], at: usize, skip: usize, next: usize) -> &mut [u8] {
-    if octets.len() < next {
-        return &mut octets[0..0];
-    }
-    if next < at {
-        return &mut octets[0..0];
-    }
+pub fn part_mut(octets: &mut [u8], at: usize, skip: usize, next: usize) -> &mut [u8]
+    requires { ⌜ (at ≤ next) × (next ≤ length (now octets)) ⌝ }
+{
     if next - at < skip {
         return &mut octets[0..0];
     }
     &mut octets[at + skip..next]
 }
 
-// The number of 64 bits after the first octets of a call, 0 where there is none.
-pub fn read_u64(octets: &[u8], at: usize, skip: usize) -> u64
+// The number of 64 bits after the first octets of a call, 0 where it is cut short.
+pub fn read_u64(octets: &[u8], at: usize, skip: usize, next: usize) -> u64
+    requires { ⌜ (at ≤ next) × (next ≤ length (now octets)) ⌝ }
     requires { ⌜ skip ≤ 19 ⌝ }
 {
-    if octets.len() < at {
-        return 0;
-    }
-    if octets.len() - at < skip + 8 {
+    if next - at < skip + 8 {
         return 0;
     }
     let place = at + skip;
