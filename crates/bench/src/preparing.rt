@@ -5,10 +5,6 @@ ghost use Rattle.connection.specs.Record.{Sound};
 use crate::segments;
 use crate::stream;
 use connection::Connection;
-use connection::Setup;
-use offers::Offers;
-use offers::Scale;
-use serial::Seq;
 
 pub struct Prepared {
     pub connection: Connection,
@@ -71,35 +67,4 @@ fn good(connection: Connection) -> Prepared
         connection,
         bad: false,
     }
-}
-
-// What an opening is given, from the body of its call.
-pub fn setup(body: &[u8]) -> Setup {
-    let iss = Seq(octets::read_u32(body, 0));
-    let offers = offers(octets::read_u8(body, 4), octets::read_u8(body, 5));
-    let window = octets::read_u32(body, 6);
-    let offset = octets::read_u32(body, 10);
-    Setup {
-        iss,
-        offers,
-        window,
-        offset,
-    }
-}
-
-// Offers by their bits: 0 timestamps, 1 SACK, 2 window scale.
-fn offers(shift: u8, bits: u8) -> Offers {
-    let scale = scale(shift, bits / 4 % 2 == 1);
-    Offers {
-        scale,
-        timestamps: bits % 2 == 1,
-        sack: bits / 2 % 2 == 1,
-    }
-}
-
-fn scale(shift: u8, offered: bool) -> Scale {
-    if offered {
-        return Scale::Shift(shift);
-    }
-    Scale::Absent
 }

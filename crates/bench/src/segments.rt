@@ -3,7 +3,6 @@
 ghost use Prim.Native.Nat.{_≤_};
 ghost use lib.ListN.{length};
 ghost use Rattle.connection.specs.Record.{Sound};
-use crate::preparing;
 use crate::rounds::Made;
 use crate::stream;
 use crate::sums;
@@ -63,7 +62,7 @@ fn open(k: Connection, octets: &[u8], at: usize, next: usize, syn: Segment) -> C
     ensures { λ r. ⌜ Sound r ⌝ }
 {
     let clock = stream::read_u64(octets, at, 19, next);
-    let setup = preparing::setup(stream::part(octets, at, 5, next));
+    let setup = script::setup(stream::part(octets, at, 5, next));
     let answer = Connection::open_read(setup, clock, syn);
     let outcome = answer.outcome;
     if outcome.number() != 0 {

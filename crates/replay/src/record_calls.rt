@@ -8,19 +8,15 @@ use crate::text;
 use acknowledgment::AckOutcome;
 use connection::Arrival;
 use connection::Connection;
-use connection::Setup;
-use offers::Offers;
-use offers::Scale;
 use receive::Part;
 use segment::Ports;
-use serial::Seq;
 
 // Opens a record from the peer's SYN; the record that was there stays where the opening is refused.
 pub fn open(session: Session, body: &[u8], line: &mut [u8]) -> Step
     requires { ⌜ Sound (session .connection) ⌝ }
     ensures { λ r. ⌜ Sound (r .session .connection) ⌝ }
 {
-    let setup = setup_of(body);
+    let setup = script::setup(body);
     let clock = body::read_u64(body::rest(body, 14));
     let answer = Connection::open(setup, clock, body::rest(body, 22));
     let outcome = answer.outcome;
@@ -161,34 +157,4 @@ fn with_record(session: Session, connection: Connection, line: &mut [u8], at: us
         session: next,
         length,
     }
-}
-
-fn setup_of(body: &[u8]) -> Setup {
-    let iss = Seq(octets::read_u32(body, 0));
-    let offers = offers_of(octets::read_u8(body, 4), octets::read_u8(body, 5));
-    let window = octets::read_u32(body, 6);
-    let offset = octets::read_u32(body, 10);
-    Setup {
-        iss,
-        offers,
-        window,
-        offset,
-    }
-}
-
-// Offers by their bits: 0 timestamps, 1 SACK, 2 window scale.
-fn offers_of(shift: u8, bits: u8) -> Offers {
-    let scale = scale_of(shift, bits / 4 % 2 == 1);
-    Offers {
-        scale,
-        timestamps: bits % 2 == 1,
-        sack: bits / 2 % 2 == 1,
-    }
-}
-
-fn scale_of(shift: u8, offered: bool) -> Scale {
-    if offered {
-        return Scale::Shift(shift);
-    }
-    Scale::Absent
 }
