@@ -32,7 +32,7 @@ pub fn make(connection: Connection, octets: &[u8], from: usize, end: usize, call
                     sum = sums::add(sum, sums::segment(s));
                 }
                 4 => {
-                    k = open(k, octets, at, next, s);
+                    k = open(octets, at, next, s);
                 }
                 _ => {
                     let arrival = k.arrive_read(stream::read_u64(octets, at, 5, next), s);
@@ -55,18 +55,13 @@ fn fixed_octets(call: u8) -> usize {
     }
 }
 
-// The record that is opened, or the one before where the opening is refused.
-fn open(k: Connection, octets: &[u8], at: usize, next: usize, syn: Segment) -> Connection
-    requires { ⌜ Sound k ⌝ }
+// The record that is opened, a blank one where the opening is refused.
+fn open(octets: &[u8], at: usize, next: usize, syn: Segment) -> Connection
     requires { ⌜ (at ≤ next) × (next ≤ length (now octets)) ⌝ }
     ensures { λ r. ⌜ Sound r ⌝ }
 {
     let clock = stream::read_u64(octets, at, 19, next);
     let setup = script::setup(stream::part(octets, at, 5, next));
     let answer = Connection::open_read(setup, clock, syn);
-    let outcome = answer.outcome;
-    if outcome.number() != 0 {
-        return k;
-    }
     answer.connection
 }

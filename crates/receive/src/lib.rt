@@ -120,7 +120,8 @@ impl Receive {
         if len == 0 {
             return false;
         }
-        window::last(self.nxt, seq, len) < self.new_part(seq, len).to
+        // The new part ends after the last number or with the window.
+        window::last(self.nxt, seq, len) < self.window
     }
 
     // Whether there is no room to hold the new part: verdict 30.
