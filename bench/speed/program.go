@@ -5,6 +5,7 @@ package main
 import (
 	"bytes"
 	"encoding/binary"
+	"io"
 	"os"
 	"os/exec"
 	"time"
@@ -56,9 +57,11 @@ func inputOf(s stream) []byte {
 	return append(octets, s.measured...)
 }
 
+// write fails where the program has ended, which says why in what it answered.
 func (p *program) write(octets []byte) {
 	if _, err := p.input.Write(octets); err != nil {
-		fail.Now("%s: %v", p.name, err)
+		answered, _ := io.ReadAll(p.output)
+		fail.Now("%s: %v, after the answer %q", p.name, err, answered)
 	}
 }
 
