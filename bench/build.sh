@@ -86,5 +86,5 @@ build_all() {
     build_programs
     build_reference
     build_readers
-    build_go speed compare
+    build_go speed compare symbols
 }

@@ -6,6 +6,7 @@ import (
 	"fmt"
 	"strings"
 
+	"noppalerk/bench/fail"
 	"noppalerk/bench/segment"
 	"noppalerk/bench/table"
 )
@@ -43,7 +44,7 @@ func (c comparison) classOf(ours, theirs string, octets []byte) int {
 			return i
 		}
 	}
-	fail("no rule explains a difference from %s\nsegment: %x\nlibrary: %s\n%s: %s", c.peer, octets, ours, c.peer, theirs)
+	fail.Now("no rule explains a difference from %s\nsegment: %x\nlibrary: %s\n%s: %s", c.peer, octets, ours, c.peer, theirs)
 	return 0
 }
 
@@ -56,7 +57,7 @@ func (c comparison) differing() (sum int) {
 
 func printCounts(seed int64, all []comparison) {
 	t := table.New(fmt.Sprintf("Reading compared with other readers, on random segments from seed %d", seed),
-		"A difference that no rule of the table below explains ends the run, and its segment is printed.",
+		"A difference that no rule of the next table explains ends the run, and its segment is printed.",
 		table.Text("reader"), table.Number("segments"), table.Number("read alike, every field"), table.Number("refused alike"),
 		table.Number("differ, by a rule of the reader's"))
 	for _, c := range all {

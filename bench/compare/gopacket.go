@@ -9,6 +9,7 @@ import (
 	"github.com/google/gopacket"
 	"github.com/google/gopacket/layers"
 
+	"noppalerk/bench/fail"
 	"noppalerk/bench/segment"
 )
 
@@ -36,7 +37,7 @@ func numberOfError(err error) int {
 	case strings.HasPrefix(text, "Invalid TCP option length"):
 		return 4
 	}
-	fail("an error of gopacket's that has no number: %v", err)
+	fail.Now("an error of gopacket's that has no number: %v", err)
 	return 0
 }
 

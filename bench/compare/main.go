@@ -3,9 +3,7 @@ package main
 
 import (
 	"flag"
-	"fmt"
 	"math/rand"
-	"os"
 )
 
 func main() {
@@ -29,9 +27,4 @@ func main() {
 	}
 	printCounts(*seed, all)
 	printDifferences(all)
-}
-
-func fail(format string, values ...any) {
-	fmt.Fprintf(os.Stderr, "error: "+format+"\n", values...)
-	os.Exit(1)
 }

@@ -5,10 +5,9 @@ package main
 import (
 	"bytes"
 	"encoding/binary"
-	"os"
-	"os/exec"
-	"strings"
 
+	"noppalerk/bench/command"
+	"noppalerk/bench/fail"
 	"noppalerk/bench/readers"
 	"noppalerk/bench/segment"
 )
@@ -18,7 +17,7 @@ func readByLibrary(replay string, segments [][]byte) []string {
 	for _, octets := range segments {
 		calls.Write(segment.Read(octets))
 	}
-	return linesOf(exec.Command(replay), calls.Bytes(), len(segments))
+	return linesFor(segments, calls.Bytes(), replay)
 }
 
 // readByScapy hands the segments to the script, each with a length of four octets before it.
@@ -29,20 +28,14 @@ func readByScapy(script string, segments [][]byte) []string {
 		lent.Write(octets)
 	}
 	const debianPython = "/usr/bin/python3"
-	return linesOf(exec.Command(debianPython, script), lent.Bytes(), len(segments))
+	return linesFor(segments, lent.Bytes(), debianPython, script)
 }
 
-// linesOf gives the lines that a command prints, which must be so many.
-func linesOf(command *exec.Cmd, input []byte, count int) []string {
-	command.Stdin = bytes.NewReader(input)
-	command.Stderr = os.Stderr
-	printed, err := command.Output()
-	if err != nil {
-		fail("%s: %v", command.Path, err)
-	}
-	lines := strings.Split(strings.TrimSuffix(string(printed), "\n"), "\n")
-	if len(lines) != count {
-		fail("%s: %d segments, %d lines", command.Path, count, len(lines))
+// linesFor gives the lines that a program prints, which must be one for each segment.
+func linesFor(segments [][]byte, input []byte, program string, words ...string) []string {
+	lines := command.Lines(input, program, words...)
+	if len(lines) != len(segments) {
+		fail.Now("%s: %d segments, %d lines", program, len(segments), len(lines))
 	}
 	return lines
 }
@@ -53,7 +46,7 @@ func readByC(segments [][]byte) []string {
 	for i, octets := range segments {
 		number, fields := readers.Fields(octets)
 		if refusal := readers.Refusal(octets); refusal != number {
-			fail("the C reader's numbers are %d and %d: %x", number, refusal, octets)
+			fail.Now("the C reader's numbers are %d and %d: %x", number, refusal, octets)
 		}
 		lines[i] = segment.RefusalLine(number)
 		if number == 0 {

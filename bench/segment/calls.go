@@ -10,6 +10,7 @@ const (
 	callOpen        = 4
 	callArrive      = 5
 	callSent        = 6
+	callWindow      = 7
 	callAcknowledge = 8
 )
 
@@ -51,6 +52,11 @@ func Arrive(clock uint64, octets []byte) []byte {
 // Sent is the call that notes so many octets as sent.
 func Sent(octets uint32) []byte {
 	return call(callSent, binary.BigEndian.AppendUint32(nil, octets))
+}
+
+// Window is the call that opens the receive window to so many octets.
+func Window(octets uint32) []byte {
+	return call(callWindow, binary.BigEndian.AppendUint32(nil, octets))
 }
 
 // Acknowledge is the call that writes an acknowledgment into a buffer of so many octets.

@@ -74,11 +74,3 @@ func stampsAndBlocks(random *rand.Rand) []byte {
 func damaged(random *rand.Rand) []byte {
 	return append(stamps(random), 254, 6, 0, 0)
 }
-
-// padded fills a list of options with end-of-list octets to a multiple of four.
-func padded(options []byte) []byte {
-	for len(options)%4 != 0 {
-		options = append(options, segment.KindEnd)
-	}
-	return options
-}

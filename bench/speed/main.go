@@ -3,8 +3,6 @@ package main
 
 import (
 	"flag"
-	"fmt"
-	"os"
 	"runtime"
 )
 
@@ -28,7 +26,7 @@ func main() {
 	refusalTable(readings).Print()
 	fieldsTable(readings).Print()
 	arrivalTable(arrivals).Print()
-	streamTable("Writing an acknowledgment", "acknowledgment", "", []*streamRow{acknowledgment}).Print()
+	acknowledgmentTable(acknowledgment).Print()
 	lengthTable(lengths).Print()
 	optionTable(options).Print()
 	rangesTable(ranges).Print()
@@ -65,14 +63,4 @@ func arguments() settings {
 		s.passes, s.turns = 2, 5
 	}
 	return s
-}
-
-func nanoseconds(value float64) string { return fmt.Sprintf("%.1f", value) }
-
-// ratio says how many times ours another takes: above 1, the library is the faster one.
-func ratio(other, ours float64) string { return fmt.Sprintf("%.2f", other/ours) }
-
-func fail(format string, values ...any) {
-	fmt.Fprintf(os.Stderr, "error: "+format+"\n", values...)
-	os.Exit(1)
 }

@@ -5,9 +5,12 @@ package main
 import (
 	"bytes"
 	"encoding/binary"
+	"io"
 	"os"
 	"os/exec"
 	"time"
+
+	"noppalerk/bench/fail"
 )
 
 // A program takes one stream many times: target/bin/bench, or reference bench.
@@ -16,6 +19,9 @@ type program struct {
 	command       *exec.Cmd
 	input, output *os.File
 }
+
+// What a program answers, before it ends, to a stream that breaks the protocol.
+const refusedStream = "bad"
 
 // startProgram starts it and hands it the stream.
 func startProgram(words []string, s stream) *program {
@@ -27,7 +33,7 @@ func startProgram(words []string, s stream) *program {
 	p := &program{name: words[0], command: exec.Command(words[0], words[1:]...), input: input, output: output}
 	p.command.Stdin, p.command.Stdout, p.command.Stderr = theirInput, theirOutput, os.Stderr
 	if err := p.command.Start(); err != nil {
-		fail("%v", err)
+		fail.Now("%v", err)
 	}
 	theirInput.Close()
 	theirOutput.Close()
@@ -38,7 +44,7 @@ func startProgram(words []string, s stream) *program {
 func pipe() (read, write *os.File) {
 	read, write, err := os.Pipe()
 	if err != nil {
-		fail("%v", err)
+		fail.Now("%v", err)
 	}
 	return read, write
 }
@@ -51,9 +57,11 @@ func inputOf(s stream) []byte {
 	return append(octets, s.measured...)
 }
 
+// write fails where the program has ended, which says why in what it answered.
 func (p *program) write(octets []byte) {
 	if _, err := p.input.Write(octets); err != nil {
-		fail("%s: %v", p.name, err)
+		answered, _ := io.ReadAll(p.output)
+		fail.Now("%s: %v, after the answer %q", p.name, err, answered)
 	}
 }
 
@@ -63,7 +71,11 @@ func (p *program) order(rounds uint32) (answer string, taken time.Duration) {
 	start := time.Now()
 	p.write(octets)
 	answer = p.line()
-	return answer, time.Since(start)
+	taken = time.Since(start)
+	if answer == refusedStream {
+		fail.Now("%s does not take the stream", p.name)
+	}
+	return answer, taken
 }
 
 // line reads up to the newline.
@@ -73,7 +85,7 @@ func (p *program) line() string {
 	for !bytes.HasSuffix(line, []byte("\n")) {
 		n, err := p.output.Read(buffer)
 		if err != nil {
-			fail("%s gives no answer: %v", p.name, err)
+			fail.Now("%s gives no answer: %v", p.name, err)
 		}
 		line = append(line, buffer[:n]...)
 	}
@@ -85,6 +97,6 @@ func (p *program) stop() {
 	p.input.Close()
 	p.output.Close()
 	if err := p.command.Wait(); err != nil {
-		fail("%s: %v", p.name, err)
+		fail.Now("%s: %v", p.name, err)
 	}
 }

@@ -5,6 +5,7 @@ package main
 import (
 	"fmt"
 
+	"noppalerk/bench/fail"
 	"noppalerk/bench/readers"
 	"noppalerk/bench/segment"
 	"noppalerk/bench/table"
@@ -29,7 +30,7 @@ func mustRefuse(c readingCase, set segment.Set) {
 	want := uint64(c.refusal * set.Count)
 	for _, reader := range []readers.Reader{readers.LibraryRefusal, readers.CRefusal} {
 		if sum := reader.Sum(set); sum != want {
-			fail("%s: refusal numbers add up to %d, and not to %d", c.name, sum, want)
+			fail.Now("%s: refusal numbers add up to %d, and not to %d", c.name, sum, want)
 		}
 	}
 }
@@ -59,7 +60,7 @@ func newReadingRow(s settings, c readingCase) *readingRow {
 func (r *readingRow) pass(s settings) {
 	r.fields.passWith(s, r.refusal.library, r.refusal.c, r.c, r.lwIP, r.gVisor, r.goPacket)
 	if sum := fmt.Sprint(r.sum); sum != r.fields.sum {
-		fail("%s: the C reader's fields add up to %s, and the library's to %s", r.fields.name, sum, r.fields.sum)
+		fail.Now("%s: the C reader's fields add up to %s, and the library's to %s", r.fields.name, sum, r.fields.sum)
 	}
 }
 
@@ -86,9 +87,10 @@ func refusalTable(rows []*readingRow) *table.Table {
 }
 
 func fieldsTable(rows []*readingRow) *table.Table {
-	const note = "The library and the Rust reference read and add up every field, by the stream programs, which also walk the stream's calls. The C\n" +
-		"reader writes every field to a record, and its loop adds up the same ones; the sums must be equal. The figures of the other\n" +
-		"columns are those of the table above."
+	const note = "The C entry of the table above answers the number alone, so that the values of the options are not read there, whereas lwIP and\n" +
+		"gVisor read them. This table has the reading of every field by the stream programs, walking the stream included, and carries no\n" +
+		"goal. The C reader writes every field to a record, and its loop adds up the same ones as the programs; the sums must be equal. The\n" +
+		"times of lwIP, gVisor and gopacket are those of the table above."
 	t := table.New("Reading a segment: all fields", note,
 		table.Text("segment"), table.Number("library, ns"), table.Number("Rust / library"), table.Number("C reader / library"),
 		table.Number("lwIP / library"), table.Number("gVisor / library"), table.Number("gopacket / library"))

@@ -3,35 +3,30 @@
 package main
 
 import (
-	"bytes"
 	"fmt"
-	"os/exec"
 	"strings"
+
+	"noppalerk/bench/command"
+	"noppalerk/bench/fail"
 )
 
 // mustAnswer plays a stream's calls once by the replay program, and holds every answer to a number.
 func mustAnswer(s settings, name string, number int, calls stream) {
 	answers := replayed(s, calls)
 	if len(answers) < calls.count {
-		fail("%s: %d calls, %d answers", name, calls.count, len(answers))
+		fail.Now("%s: %d calls, %d answers", name, calls.count, len(answers))
 	}
 	for _, answer := range answers {
 		if words := strings.Fields(answer); len(words) < 2 || words[1] != fmt.Sprint(number) {
-			fail("%s: a call is to answer the number %d, and answers %q", name, number, answer)
+			fail.Now("%s: a call is to answer the number %d, and answers %q", name, number, answer)
 		}
 	}
 }
 
 // replayed gives the line that answers each call, without the lines of the record after it.
-func replayed(s settings, calls stream) []string {
-	command := exec.Command(s.replay)
-	command.Stdin = bytes.NewReader(append(append([]byte{}, calls.prepared...), calls.measured...))
-	printed, err := command.Output()
-	if err != nil {
-		fail("%s: %v", s.replay, err)
-	}
-	var answers []string
-	for _, line := range strings.Split(strings.TrimSuffix(string(printed), "\n"), "\n") {
+func replayed(s settings, calls stream) (answers []string) {
+	script := append(append([]byte{}, calls.prepared...), calls.measured...)
+	for _, line := range command.Lines(script, s.replay) {
 		if !strings.HasPrefix(line, "record ") {
 			answers = append(answers, line)
 		}

@@ -5,6 +5,8 @@ package main
 import (
 	"math"
 	"time"
+
+	"noppalerk/bench/fail"
 )
 
 // A streamRow is a stream, with what both programs have taken for it so far.
@@ -45,7 +47,7 @@ func enoughRounds(p *program) uint32 {
 			return rounds
 		}
 	}
-	fail("%s answers %d rounds in no time", p.name, most)
+	fail.Now("%s answers %d rounds in no time", p.name, most)
 	return 0
 }
 
@@ -71,7 +73,7 @@ func (p programs) run() {
 	ours := p.row.library.take(p.library, p.row.rounds)
 	theirs := p.row.reference.take(p.reference, p.row.rounds)
 	if ours != theirs {
-		fail("%s, %d rounds: %s answers %s, %s answers %s", p.row.name, p.row.rounds, p.library.name, ours, p.reference.name, theirs)
+		fail.Now("%s, %d rounds: %s answers %s, %s answers %s", p.row.name, p.row.rounds, p.library.name, ours, p.reference.name, theirs)
 	}
 }
 

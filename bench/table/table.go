@@ -19,7 +19,7 @@ func Text(heading string) Column { return Column{heading: heading} }
 // Number is a column of numbers.
 func Number(heading string) Column { return Column{heading: heading, isNumber: true} }
 
-// Table has a title, rows below its columns, and a note that may be empty.
+// Table has a title, a note that may be empty, and rows below its columns.
 type Table struct {
 	title, note string
 	columns     []Column
@@ -37,14 +37,14 @@ func (t *Table) Add(cells ...string) { t.rows = append(t.rows, cells) }
 // Print writes the table to standard output, and an empty line after it.
 func (t *Table) Print() {
 	fmt.Printf("### %s\n\n", t.title)
+	if t.note != "" {
+		fmt.Printf("%s\n\n", t.note)
+	}
 	widths := t.widths()
 	t.printRow(t.headings(), widths)
 	t.printRule(widths)
 	for _, row := range t.rows {
 		t.printRow(row, widths)
-	}
-	if t.note != "" {
-		fmt.Printf("\n%s\n", t.note)
 	}
 	fmt.Println()
 }
