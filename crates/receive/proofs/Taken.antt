@@ -8,7 +8,6 @@ use native.Mathlib.Omega.{arith}
 use lib.Dec.{eqb, ltb}
 use lib.Pow.{pow-mono}
 use borrow.Author.Tests.{eq-eqb, eqb-true, lt-leb, ltb-true, ne-eqb}
-use Rattle.serial.specs.Serial.{movedBy}
 use Rattle.serial.specs.declared.Range.{Range}
 use Rattle.receive.specs.declared.Held.{Held}
 use Rattle.receive.specs.declared.Part.{Part}
@@ -102,14 +101,11 @@ module _ (r : Receive) (s : Sound r) where
       let none = none-held (r .held) alone in
       rw none (ap moved (s .canonical .form ∙ ap heldOf none))
     where
+      m : Receive
+      m = movedOn r (p .to)
+
       moved : Held → Receive
-      moved held = record {
-        nxt = record { 0 = movedBy (r .nxt .0) (p .to) };
-        window = r .window - p .to;
-        shift = r .shift;
-        acked = r .acked;
-        held = held;
-      }
+      moved held = record { nxt = m .nxt; window = m .window; shift = m .shift; acked = m .acked; held = held }
 
   pub holding-near : (p : Part) → isOutOfOrder p ≡ false → holding r p ≡ r
   unfolding holding
