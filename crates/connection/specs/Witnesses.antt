@@ -28,12 +28,12 @@ use Rattle.connection.specs.declared.Reason.{Reason}
 use Rattle.connection.specs.declared.Verdict.{Verdict}
 use Rattle.connection.specs.Numbers.{Decision, dropSilent, dropWithAck, openNumber, outcomeOf, refuse, reset, take}
 use Rattle.connection.specs.Record.{Answer, blank}
-use Rattle.connection.specs.Opening.{isNotSyn, isWrongAck, opening, openingFrom, recordFrom, recordWith, timestampingFrom}
+use Rattle.connection.specs.Opening.{isNotSyn, isWrongAck, opening, openingFrom, openingRead, recordFrom, recordWith, timestampingFrom}
 use Rattle.connection.specs.Verdict.{hasOldTimestamp, lacksTimestamp, outdated, rows, valueBefore}
 use Rattle.connection.specs.Taking.{fedBy, isRecorded, listed, recordAfter, replacesRecent, sampleOf, timestampingAfter}
 use Rattle.connection.specs.Arriving.{Arrival, arriving, arrivingRead, judged, settled, takenBy}
 use Rattle.connection.specs.Operations.{acknowledged, expired, sent, windowOpened}
-use Rattle.connection.specs.Calls.{Call, Opened, acknowledgment, arrival, expiry, run, sending, timerCall, timerCalls, unread, window}
+use Rattle.connection.specs.Calls.{Call, Incoming, Opened, acknowledgment, arrival, expiry, openedBy, read, run, sending, timerCall, timerCalls, unread, window}
 use Rattle.connection.specs.Cases.{ack, answer, answered, bare, base, behind, connected, decision, fin, fourBlocks, full, left, newly, octets, outstanding, own, plain, receiveSide, recorded, rst, sacks, sampled, sendSide, setup, seven, stamps, syn, synOptions, unacknowledged, unscaled, unscaledReceive, unscaledSend, zeroWindow}
 
 -- the enums
@@ -64,6 +64,10 @@ openOutcomes =
     ∷ (OpenOutcome.Refused OpenRefusal.NotSyn, 10)
     ∷ (OpenOutcome.Refused OpenRefusal.WrongAck, 11)
     ∷ []
+
+-- the fields of these octets, where they are read before they are handed in
+abbrev readBefore : List ℕ → Incoming
+readBefore l = Option·elim (reading l .fields) (unread l) read
 
 -- openings
 pub openings : List (Answer × Answer)
@@ -114,6 +118,11 @@ openings =
       opening (setup 4294967295 Scale.Absent 9) 100 (octets 4294967295 0 (syn + ack) 5 [] 0),
       answered 0 (unscaled false false 536 (unscaledReceive 0 9 0 []) (unscaledSend 0 0 5 4294967295 0) newly),
     )
+    -- from a SYN that was read before: the record, E9 before E10, E10 before E11
+    ∷ (openedBy own 100 (readBefore (octets 4999 0 syn 8192 (synOptions 50 3) 0)), answered 0 base)
+    ∷ (openedBy (setup 1000 (Scale.Shift 15) 9) 100 (readBefore (octets 4999 0 ack 0 [] 0)), answered 9 blank)
+    ∷ (openedBy own 100 (readBefore (octets 4999 77 (syn + rst + ack) 0 [] 0)), answered 10 blank)
+    ∷ (openedBy own 100 (readBefore (octets 4999 1000 (syn + ack) 0 [] 0)), answered 11 blank)
     ∷ []
 
 -- an arrival at a record
@@ -382,11 +391,12 @@ operations =
     )
     ∷ []
 
--- each call once: a sample of 57, octets sent, the window opened, an expiry, an acknowledgment, and a sample of 600,001
+-- each call once: a sample of 57, octets sent, the window opened, an expiry, an acknowledgment, and a sample of 600,001 by a segment that
+-- was read before
 abbrev calls : List Call
 calls =
     arrival 150 (unread (octets 5000 1001 fin 9 (stamps 60 100) 500)) ∷ sending 5 ∷ window 65535 ∷ expiry ∷ acknowledgment
-    ∷ arrival 160 (unread (octets 5501 1003 ack 9 (stamps 61 4294367462) 0)) ∷ []
+    ∷ arrival 160 (readBefore (octets 5501 1003 ack 9 (stamps 61 4294367462) 0)) ∷ []
 
 pub runs : List (Connection × Connection)
 runs = (
@@ -401,6 +411,9 @@ fedCalls =
     (timerCall base (arrival 150 (unread (octets 5000 1001 fin 9 (stamps 60 100) 500))), rto.sample 57 ∷ [])
     -- one that the timer leaves out is fed too
     ∷ (timerCall base (arrival 150 (unread (octets 5000 1001 ack 9 (stamps 60 4294367452) 0))), rto.sample 600001 ∷ [])
+    -- of a segment that was read before, with a new ACK and without
+    ∷ (timerCall base (arrival 150 (readBefore (octets 5000 1001 fin 9 (stamps 60 100) 500))), rto.sample 57 ∷ [])
+    ∷ (timerCall base (arrival 150 (readBefore (octets 5000 1000 ack 9 (stamps 60 100) 500))), [])
     ∷ (timerCall base (arrival 150 (unread (octets 5000 1000 ack 9 (stamps 60 100) 500))), [])
     ∷ (timerCall base (arrival 150 (unread (octets 5000 1002 ack 9 (stamps 60 100) 500))), [])
     ∷ (timerCall base (arrival 150 (unread (octets 4000 1001 ack 9 (stamps 60 100) 500))), [])
@@ -428,7 +441,7 @@ unfolding outcomes openOutcomes openings verdicts answers operations runs fedCal
     receive.lacksRoom receive.newPart receive.opened receive.windowOpened isBroken padding paddingRule blocksFrom faultAt faultIn isRepeated
     isWrongLength lengthsOf oneToFour optionIn optionsOf standsIn optionsRead reading segmentOf send.opened send.isNew send.acknowledged
     send.isCurrent send.isLater send.updatesWindow send.windowed send.taken send.exceedsWindow send.sent send.isListed blank isNotSyn
-    isWrongAck opening openingFrom recordFrom recordWith timestampingFrom hasOldTimestamp lacksTimestamp outdated rows valueBefore fedBy
+    isWrongAck opening openingFrom openingRead recordFrom recordWith timestampingFrom hasOldTimestamp lacksTimestamp outdated rows valueBefore fedBy
     isRecorded listed recordAfter replacesRecent sampleOf timestampingAfter arriving arrivingRead judged settled takenBy acknowledged
     expired sent windowOpened Option·elim
 witnesses = (refl, refl, refl, refl, refl, refl, refl, refl)
