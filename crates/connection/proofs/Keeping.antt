@@ -61,9 +61,7 @@ module _ (own : Setup) (clock : ℕ) (kept : exceedLimits (own .offers) (own .wi
 
 pub opening-read-sound : (own : Setup) (clock : ℕ) (syn : Segment) → Sound (openingRead own clock syn .connection)
 unfolding openingRead
-opening-read-sound own clock syn =
-    either SoundAnswer (exceedLimits (own .offers) (own .window)) (refusedOpening 9) _ (λ _. blank-sound)
-    (λ kept. opening-from-sound own clock kept syn)
+opening-read-sound own clock syn = either SoundAnswer _ (refusedOpening 9) _ (λ _. blank-sound) (λ kept. opening-from-sound own clock kept syn)
 
 pub opening-sound : (own : Setup) (clock : ℕ) (octets : List ℕ) → Sound (opening own clock octets .connection)
 unfolding opening
