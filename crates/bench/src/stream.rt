@@ -99,7 +99,7 @@ pub fn read_u64(octets: &[u8], at: usize, skip: usize, next: usize) -> u64
     (four(octets, place) as u64) * 0x1_0000_0000 + (four(octets, place + 4) as u64)
 }
 
-// Four octets within the slice as one number.
+// Four octets as one number. That they lie within is proved, so nothing is tested.
 fn four(octets: &[u8], at: usize) -> u32
     requires { ⌜ at + 4 ≤ length (now octets) ⌝ }
 {
