@@ -8,13 +8,13 @@ use native.Mathlib.Omega.{arith}
 use lib.Dec.{ltb}
 use lib.ListN.{drop, length}
 use borrow.Author.Tests.{le-ltb, lt-ltb, ltb-false, ltb-true}
-use Rattle.segment.specs.Writing as segment
-use Rattle.segment.specs.declared.Header.{Header}
 use Rattle.segment.specs.declared.Options.{Options}
-use Rattle.segment.specs.declared.Ports.{Ports}
-use Rattle.segment.specs.declared.Writing.{Writing}
-use Rattle.segment.proofs.Answers as writer
-use Rattle.segment.proofs.Lengths.{length-options, length-written, units-most}
+use Rattle.writer.specs.Writing.{shownWriting, stored, writing}
+use Rattle.writer.specs.declared.Header.{Header}
+use Rattle.writer.specs.declared.Ports.{Ports}
+use Rattle.writer.specs.declared.Writing.{Writing}
+use Rattle.writer.proofs.Answers as writer
+use Rattle.writer.proofs.Lengths.{length-options, length-written, units-most}
 use Rattle.connection.specs.Calls.{acknowledgment, called}
 use Rattle.connection.specs.Operations.{acknowledged}
 use Rattle.connection.specs.declared.Connection.{Connection}
@@ -35,7 +35,7 @@ module _ (k : Connection) (ports : Ports) (clock : ℕ) (buffer : List ℕ) wher
   a = acknowledging k ports clock buffer
 
   abbrev pub wrote : Answer
-  wrote = record { number = 0; length = length octets; buffer = segment.stored octets buffer; connection = acknowledged k }
+  wrote = record { number = 0; length = length octets; buffer = stored octets buffer; connection = acknowledged k }
 
   -- E8, E7, or neither
   pub clock-back-if : clock < since → a ≡ refused 8 buffer k
@@ -52,11 +52,11 @@ module _ (k : Connection) (ports : Ports) (clock : ℕ) (buffer : List ℕ) wher
 
   -- where the clock is not refused, by the case that the code's writer answered
   pub by-writing : since ≤ clock → (header : Header) (options : Options) → header ≡ headerOf k ports → options ≡ optionsOf k clock
-      → (w v : Writing) → w ≡ v → (exit : List ℕ) → segment.shownWriting w exit ≡ segment.writing header options buffer
-      → answeredBy k (segment.shownWriting v exit) ≡ a
+      → (w v : Writing) → w ≡ v → (exit : List ℕ) → shownWriting w exit ≡ writing header options buffer
+      → answeredBy k (shownWriting v exit) ≡ a
   unfolding acknowledging
   by-writing on header options x y w v same exit e =
-      (λ i. answeredBy k (segment.shownWriting (sym same i) exit)) ∙ ap (answeredBy k) (e ∙ (λ i. segment.writing (x i) (y i) buffer))
+      (λ i. answeredBy k (shownWriting (sym same i) exit)) ∙ ap (answeredBy k) (e ∙ (λ i. writing (x i) (y i) buffer))
       ∙ simp (le-ltb _ _ on)
 
   by-cases : (P : Answer → Type 0) → (clock < since → P (refused 8 buffer k))

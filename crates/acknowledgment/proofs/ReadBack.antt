@@ -7,18 +7,18 @@ use native.Mathlib.Omega.{arith}
 use lib.ListN.{length, length-take, take}
 use borrow.Author.Tests.{le-ltb}
 use Rattle.laws.proofs.Choices.{either}
-use Rattle.octets.specs.Octets.{bigEndian}
 use Rattle.serial.specs.declared.Range.{Range}
 use Rattle.serial.specs.declared.Stamp.{Stamp}
+use Rattle.octets.specs.Octets.{bigEndian}
 use Rattle.segment.specs.Options.{blockList}
 use Rattle.segment.specs.Reading.{readAs, reading}
-use Rattle.segment.specs.Writing.{blockRoom, blocksOfList, fitting, mssWritten, othersWritten, scaleWritten, segmentWritten, timestampsWritten}
 use Rattle.segment.specs.declared.Options.{Options}
-use Rattle.segment.specs.declared.Ports.{Ports}
 use Rattle.segment.specs.declared.Timestamps.{Timestamps}
-use Rattle.segment.proofs.BlockLists.{blocks-back, list-back}
-use Rattle.segment.proofs.Lengths.{fits, length-written}
-use Rattle.segment.proofs.ReadBack.{buffer-read-back}
+use Rattle.writer.specs.Writing.{blockRoom, blocksOfList, fitting, mssWritten, othersWritten, scaleWritten, segmentWritten, timestampsWritten}
+use Rattle.writer.specs.declared.Ports.{Ports}
+use Rattle.writer.proofs.BlockLists.{blocks-back, list-back}
+use Rattle.writer.proofs.Lengths.{fits, length-written}
+use Rattle.writer.proofs.ReadBack.{buffer-read-back}
 use Rattle.receive.specs.Ranges.{rangesOf}
 use Rattle.connection.specs.declared.Connection.{Connection}
 use Rattle.acknowledgment.specs.Acknowledgment.{acknowledging, blocksOf, headerOf, optionsOf, timestampsOf}

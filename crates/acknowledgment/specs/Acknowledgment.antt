@@ -6,19 +6,19 @@ use lib.Dec.{eqb, ltb}
 use lib.ListN.{take}
 use Rattle.serial.specs.Serial.{stampAt}
 use Rattle.serial.specs.declared.Range.{Range}
-use Rattle.segment.specs.Writing as segment
 use Rattle.segment.specs.declared.Flags.{Flags}
-use Rattle.segment.specs.declared.Header.{Header}
 use Rattle.segment.specs.declared.Mss.{Mss}
 use Rattle.segment.specs.declared.Options.{Options}
-use Rattle.segment.specs.declared.Ports.{Ports}
 use Rattle.segment.specs.declared.Timestamps.{Timestamps}
 use Rattle.segment.specs.declared.WindowScale.{WindowScale}
+use Rattle.writer.specs.Writing as writer
+use Rattle.writer.specs.declared.Header.{Header}
+use Rattle.writer.specs.declared.Ports.{Ports}
 use Rattle.receive.specs.Ranges.{rangesOf}
 use Rattle.receive.specs.declared.Receive.{Receive}
+use Rattle.timestamps.specs.declared.Timestamping.{Timestamping}
 use Rattle.connection.specs.Operations.{acknowledged}
 use Rattle.connection.specs.declared.Connection.{Connection}
-use Rattle.connection.specs.declared.Timestamping.{Timestamping}
 use Rattle.acknowledgment.specs.declared.AckAnswer.{AckAnswer}
 use Rattle.acknowledgment.specs.declared.AckOutcome.{AckOutcome}
 use Rattle.acknowledgment.specs.declared.AckRefusal.{AckRefusal}
@@ -49,7 +49,7 @@ optionsOf k clock = record {
   mss = Mss.Absent;
   scale = WindowScale.Absent;
   permitted = false;
-  blocks = segment.blocksOfList (blocksOf k);
+  blocks = writer.blocksOfList (blocksOf k);
   timestamps = timestampsOf (k .timestamping) clock;
 }
 
@@ -65,13 +65,13 @@ abbrev pub refused : ℕ → List ℕ → Connection → Answer
 refused n buffer k = record { number = n; length = 0; buffer = buffer; connection = k }
 
 -- what writing answered, E7 among it, and the record after it: if octets were written, Last.ACK.sent = RCV.NXT, and nothing else changes
-abbrev pub answeredBy : Connection → segment.Answer → Answer
+abbrev pub answeredBy : Connection → writer.Answer → Answer
 answeredBy k w = record { number = w .number; length = w .length; buffer = w .buffer; connection = cond (eqb (w .number) 0) (acknowledged k) k }
 
 -- E8, then E7
 unfoldable pub acknowledging : Connection → Ports → ℕ → List ℕ → Answer
 acknowledging k ports clock buffer =
-    cond (ltb clock (k .timestamping .since)) (refused 8 buffer k) (answeredBy k (segment.writing (headerOf k ports) (optionsOf k clock) buffer))
+    cond (ltb clock (k .timestamping .since)) (refused 8 buffer k) (answeredBy k (writer.writing (headerOf k ports) (optionsOf k clock) buffer))
 
 -- document 01's number of each refusal and outcome
 abbrev pub refusalNumber : AckRefusal → ℕ

@@ -2,9 +2,9 @@
 use Prim.Native.Nat.{ℕ}
 use mathlib.Core.List.{List}
 use lib.ListN.{length}
-use Rattle.segment.specs.Writing.{written}
-use Rattle.segment.specs.declared.Ports.{Ports}
 use Rattle.segment.specs.declared.Segment.{Segment}
+use Rattle.writer.specs.Writing.{written}
+use Rattle.writer.specs.declared.Ports.{Ports}
 use Rattle.connection.specs.declared.Connection.{Connection}
 use Rattle.acknowledgment.specs.Acknowledgment.{headerOf, onlyAck, optionsOf, windowField}
 

@@ -9,8 +9,8 @@ use Rattle.serial.specs.Serial.{range}
 use Rattle.serial.specs.declared.Range.{Range}
 use Rattle.octets.specs.Octets.{bigEndian}
 use Rattle.segment.specs.Options.{oneToFour}
-use Rattle.segment.specs.Writing.{blocksOfList, blocksWritten, fitting, flagsWritten, headerWritten, mssWritten, optionsWritten, othersWritten, sackWritten, scaleWritten, timestampsWritten, writing, written}
-use Rattle.segment.specs.declared.Ports.{Ports}
+use Rattle.writer.specs.Writing.{blocksOfList, blocksWritten, fitting, flagsWritten, headerWritten, mssWritten, optionsWritten, othersWritten, sackWritten, scaleWritten, timestampsWritten, writing, written}
+use Rattle.writer.specs.declared.Ports.{Ports}
 use Rattle.receive.specs.Ranges.{heldOf, rangesOf}
 use Rattle.receive.specs.declared.Receive.{Receive}
 use Rattle.connection.specs.Operations.{acknowledged}

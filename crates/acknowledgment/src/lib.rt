@@ -9,19 +9,19 @@ ghost use Rattle.connection.specs.Operations.{acknowledged};
 ghost use Rattle.connection.specs.Record.{Sound};
 ghost use Rattle.acknowledgment.specs.Acknowledgment.{acknowledging, blocksOf, headerOf, optionsOf, outcomeNumber, refusalNumber, shown, timestampsOf, windowField};
 use connection::Connection;
-use connection::Timestamping;
 use receive::Held;
 use receive::Receive;
 use segment::Flags;
-use segment::Header;
 use segment::Mss;
 use segment::Options;
-use segment::Ports;
 use segment::SackBlocks;
 use segment::Timestamps;
 use segment::WindowScale;
-use segment::Writing;
 use serial::Stamp;
+use timestamps::Timestamping;
+use writer::Header;
+use writer::Ports;
+use writer::Writing;
 
 // Why an acknowledgment is refused.
 pub enum AckRefusal {
@@ -209,7 +209,7 @@ pub fn write(k: Connection, ports: Ports, clock: u64, buffer: &mut [u8]) -> AckA
     }
     let header = header_of(k, ports);
     let options = options_of(k, clock);
-    let writing = segment::write(header, options, buffer);
+    let writing = writer::write(header, options, buffer);
     match writing {
         Writing::BufferTooShort => refused(k, AckRefusal::BufferTooShort),
         Writing::Octets(n) => {

@@ -7,7 +7,7 @@ use crate::stream;
 use crate::sums;
 use acknowledgment::AckOutcome;
 use connection::Connection;
-use segment::Ports;
+use writer::Ports;
 
 // Writes the acknowledgments from one place of the stream up to another, each into its call's own buffer.
 pub fn make(connection: Connection, octets: &mut [u8], from: usize, end: usize) -> Made

@@ -16,7 +16,7 @@ use Rattle.rto.specs.Timer.{newTimer}
 use Rattle.segment.specs.Grammar.{isBroken, padding, paddingRule}
 use Rattle.segment.specs.Options as options
 use Rattle.segment.specs.Reading.{optionsRead, reading, segmentOf}
-use Rattle.segment.specs.Writing as writing
+use Rattle.writer.specs.Writing as writing
 use Rattle.offers.specs.Offers.{exceedLimits, inForce, shiftsInForce}
 use Rattle.offers.specs.declared.Offers.{Offers}
 use Rattle.offers.specs.declared.Scale.{Scale}
@@ -25,12 +25,13 @@ use Rattle.receive.specs.Taking as taking
 use Rattle.receive.specs.Window as receive
 use Rattle.send.specs.Send as send
 use Rattle.send.specs.declared.Seg.{Seg}
+use Rattle.timestamps.specs.Timestamps as timestamps
 use Rattle.connection.specs.Arriving.{arriving, arrivingRead, judged, settled, takenBy}
 use Rattle.connection.specs.Calls.{Call, arrival, called, run, unread}
 use Rattle.connection.specs.Cases as cases
-use Rattle.connection.specs.Opening.{isNotSyn, isWrongAck, opening, openingFrom, recordFrom, recordWith, timestampingFrom}
-use Rattle.connection.specs.Taking.{fedBy, isRecorded, recordAfter, timestampingAfter}
-use Rattle.connection.specs.Verdict.{hasOldTimestamp, lacksTimestamp, rows}
+use Rattle.connection.specs.Opening.{isNotSyn, isWrongAck, opening, openingFrom, recordFrom, recordWith}
+use Rattle.connection.specs.Taking.{fedBy, recordAfter}
+use Rattle.connection.specs.Verdict.{rows}
 use Rattle.connection.specs.declared.Connection.{Connection}
 use Rattle.connection.specs.declared.Setup.{Setup}
 use Rattle.acknowledgment.specs.Acknowledgment as ack
@@ -134,8 +135,8 @@ unfolding seg scaling segment at own opened permitted optionOctets distanceOf of
     options.oneToFour options.optionIn options.optionsOf options.standsIn optionsRead reading segmentOf exceedLimits inForce shiftsInForce
     heldOf isOutOfOrder joined leftOf meets noRoom rangeOf rangesAfter rangesOf rightOf taking.advanced taking.holding taking.taken
     receive.acceptable receive.lacksRoom receive.newPart receive.opened send.opened send.isNew send.acknowledged send.isCurrent send.isLater
-    send.updatesWindow send.windowed send.taken isNotSyn isWrongAck opening openingFrom recordFrom recordWith timestampingFrom
-    hasOldTimestamp lacksTimestamp rows fedBy isRecorded recordAfter timestampingAfter arriving arrivingRead judged settled takenBy
+    send.updatesWindow send.windowed send.taken isNotSyn isWrongAck opening openingFrom recordFrom recordWith timestamps.opened
+    timestamps.isOld timestamps.isMissing rows fedBy timestamps.isRecorded recordAfter timestamps.taken arriving arrivingRead judged settled takenBy
     writing.headerWritten writing.mssWritten writing.timestampsWritten writing.scaleWritten writing.blocksWritten writing.sackWritten
     writing.othersWritten writing.fitting writing.optionsWritten writing.written writing.blocksOfList writing.writing ack.timestampsOf
     ack.blocksOf ack.optionsOf ack.acknowledging

@@ -11,9 +11,9 @@ use Rattle.receive.specs.Ranges.{heldOf}
 use Rattle.receive.specs.declared.Receive.{Receive}
 use Rattle.rto.specs.declared.Timer.{Timer}
 use Rattle.send.specs.declared.Send.{Send}
+use Rattle.timestamps.specs.declared.Timestamping.{Timestamping}
 use Rattle.connection.specs.declared.Connection.{Connection}
 use Rattle.connection.specs.declared.Setup.{Setup}
-use Rattle.connection.specs.declared.Timestamping.{Timestamping}
 use Rattle.connection.specs.Numbers.{Answer, Decision}
 use Rattle.connection.specs.Record as record-of
 use Rattle.connection.specs.Arriving.{Arrival}

@@ -1,11 +1,10 @@
 -- Opening a record (document 01, "Opening", and E9, E10, E11).
-use mathlib.Core.Bool.{Bool, true, false, cond, not, _&&_, _||_}
+use mathlib.Core.Bool.{Bool, cond, not, _&&_, _||_}
 use mathlib.Core.List.{List}
 use mathlib.Core.Option.{Option·elim}
 use Prim.Native.Nat.{ℕ}
 use lib.Dec.{eqb}
 use Rattle.serial.specs.Serial.{movedBy}
-use Rattle.serial.specs.declared.Stamp.{Stamp}
 use Rattle.offers.specs.Offers.{exceedLimits, inForce}
 use Rattle.offers.specs.declared.InForce.{InForce}
 use Rattle.offers.specs.declared.Offers.{Offers}
@@ -19,21 +18,21 @@ use Rattle.segment.specs.declared.Timestamps.{Timestamps}
 use Rattle.segment.specs.declared.WindowScale.{WindowScale}
 use Rattle.send.specs.Send as send
 use Rattle.send.specs.declared.Seg.{Seg}
+use Rattle.timestamps.specs.Timestamps as timestamps
+use Rattle.timestamps.specs.declared.Tsval.{Tsval}
 use Rattle.connection.specs.declared.Connection.{Connection}
 use Rattle.connection.specs.declared.OpenAnswer.{OpenAnswer}
 use Rattle.connection.specs.declared.Setup.{Setup}
-use Rattle.connection.specs.declared.Timestamping.{Timestamping}
 use Rattle.connection.specs.Numbers.{openNumber}
 use Rattle.connection.specs.Record.{Answer, blank}
 
--- whether the segment has timestamps, and its TSval, 0 where it has none
-abbrev pub hasTimestamps : Timestamps → Bool
-hasTimestamps Timestamps.Absent = false
-hasTimestamps (Timestamps.Pair value echoed) = true
+-- what a segment tells the send side, and its TSval
+abbrev pub segOf : Segment → Seg
+segOf s = record { seq = s .seq; ack = s .ack; window = s .window }
 
-abbrev pub valueOf : Timestamps → Stamp
-valueOf Timestamps.Absent = record { 0 = 0 }
-valueOf (Timestamps.Pair value echoed) = value
+abbrev pub tsvalOf : Timestamps → Tsval
+tsvalOf Timestamps.Absent = Tsval.Absent
+tsvalOf (Timestamps.Pair value echoed) = Tsval.Value value
 
 -- what the peer's SYN offers
 abbrev pub scaleOf : WindowScale → Scale
@@ -43,13 +42,9 @@ scaleOf (WindowScale.Shift shift) = Scale.Shift shift
 abbrev pub peerOffers : Segment → Offers
 peerOffers syn = record {
   scale = scaleOf (syn .options .scale);
-  timestamps = hasTimestamps (syn .options .timestamps);
+  timestamps = timestamps.isPresent (tsvalOf (syn .options .timestamps));
   sack = syn .options .permitted;
 }
-
--- what a segment tells the send side
-abbrev pub segOf : Segment → Seg
-segOf s = record { seq = s .seq; ack = s .ack; window = s .window }
 
 -- E10: opening segment lacks SYN, or has RST
 unfoldable pub isNotSyn : Segment → Bool
@@ -58,15 +53,6 @@ isNotSyn syn = not (syn .flags .syn) || syn .flags .rst
 -- E11: opening segment has ACK and its ACK is not ISS+1
 unfoldable pub isWrongAck : ℕ → Segment → Bool
 isWrongAck iss syn = syn .flags .ack && not (eqb (syn .ack .0) (movedBy iss 1))
-
--- TS.Recent = TSval (0 if not in force), set at this clock
-unfoldable pub timestampingFrom : Bool → ℕ → ℕ → Timestamps → Timestamping
-timestampingFrom active offset clock timestamps = record {
-  active = active;
-  recent = cond active (valueOf timestamps) (record { 0 = 0 });
-  since = clock;
-  offset = offset;
-}
 
 -- no MSS means 536
 abbrev pub mssOf : Mss → ℕ
@@ -78,7 +64,7 @@ unfoldable pub recordWith : InForce → Setup → ℕ → Segment → Connection
 recordWith force own clock syn = record {
   receive = receive.opened (movedBy (syn .seq .0) 1) (own .window) (force .shifts .receive);
   send = send.opened (own .iss .0) (force .shifts .send) (segOf syn) (syn .flags .ack);
-  timestamping = timestampingFrom (force .timestamps) (own .offset) clock (syn .options .timestamps);
+  timestamping = timestamps.opened (force .timestamps) (own .offset) clock (tsvalOf (syn .options .timestamps));
   sack = force .sack;
   mss = mssOf (syn .options .mss);
   timer = newTimer;

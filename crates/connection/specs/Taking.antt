@@ -1,8 +1,7 @@
 -- What taking a segment does to a record, part by part (document 01, "What taking does").
-use mathlib.Core.Bool.{Bool, false, cond, not, _&&_, _||_}
+use mathlib.Core.Bool.{cond, _&&_}
 use mathlib.Core.List.{List, [], _∷_}
 use Prim.Native.Nat.{ℕ}
-use Rattle.serial.specs.Serial.{isAtOrBefore, isBefore, roundTrip, stampAt}
 use Rattle.serial.specs.declared.Range.{Range}
 use Rattle.laws.specs.Lists.{filter}
 use Rattle.receive.specs.Taking as receive
@@ -12,33 +11,15 @@ use Rattle.segment.specs.Options.{blockList}
 use Rattle.segment.specs.declared.Segment.{Segment}
 use Rattle.segment.specs.declared.Timestamps.{Timestamps}
 use Rattle.send.specs.Send as send
+use Rattle.timestamps.specs.Timestamps as timestamps
+use Rattle.timestamps.specs.declared.Timestamping.{Timestamping}
 use Rattle.connection.specs.declared.Connection.{Connection}
-use Rattle.connection.specs.declared.Timestamping.{Timestamping}
-use Rattle.connection.specs.Opening.{segOf, valueOf}
-use Rattle.connection.specs.Verdict.{outdated}
+use Rattle.connection.specs.Opening.{segOf, tsvalOf}
 
--- TSval is not before TS.Recent or it is outdated
-unfoldable pub replacesRecent : Timestamping → ℕ → ℕ → Bool
-replacesRecent t clock value = not (isBefore value (t .recent .0)) || outdated t clock
-
--- timestamps in force, TSval may replace TS.Recent, and SEQ is at or before Last.ACK.sent
-unfoldable pub isRecorded : Timestamping → ℕ → ℕ → ℕ → Timestamps → Bool
-isRecorded t clock acked seq Timestamps.Absent = false
-isRecorded t clock acked seq (Timestamps.Pair value echoed) =
-    t .active && (replacesRecent t clock (value .0) && isAtOrBefore seq acked)
-
--- then TS.Recent = TSval, set at this clock
-abbrev pub withRecent : Timestamping → ℕ → Timestamps → Timestamping
-withRecent t clock timestamps = record { active = t .active; recent = valueOf timestamps; since = clock; offset = t .offset }
-
-unfoldable pub timestampingAfter : Timestamping → ℕ → ℕ → ℕ → Timestamps → Timestamping
-timestampingAfter t clock acked seq timestamps =
-    cond (isRecorded t clock acked seq timestamps) (withRecent t clock timestamps) t
-
--- the sample R = (our timestamp - TSecr) mod 2^32
+-- the sample R that the segment's TSecr gives
 unfoldable pub sampleOf : Timestamping → ℕ → Timestamps → List Call
 sampleOf t clock Timestamps.Absent = []
-sampleOf t clock (Timestamps.Pair value echoed) = sample (roundTrip (stampAt clock (t .offset)) (echoed .0)) ∷ []
+sampleOf t clock (Timestamps.Pair value echoed) = sample (timestamps.sampleAt t clock (echoed .0)) ∷ []
 
 -- a new ACK with timestamps gives a sample: what a take feeds to the timer, one above 600,000 too, which the timer leaves out
 unfoldable pub fedBy : Connection → ℕ → Segment → List Call
@@ -50,7 +31,7 @@ unfoldable pub recordAfter : Connection → ℕ → Segment → Connection
 recordAfter k clock s = record {
   receive = receive.taken (k .receive) (newPart (k .receive) (s .seq .0) (s .len));
   send = send.taken (k .send) (segOf s);
-  timestamping = timestampingAfter (k .timestamping) clock (k .receive .acked .0) (s .seq .0) (s .options .timestamps);
+  timestamping = timestamps.taken (k .timestamping) clock (k .receive .acked .0) (s .seq .0) (tsvalOf (s .options .timestamps));
   sack = k .sack;
   mss = k .mss;
   timer = run (k .timer) (fedBy k clock s);

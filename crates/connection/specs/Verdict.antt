@@ -1,35 +1,22 @@
 -- The verdict on an arriving segment (document 01, "Verdicts, in this order").
 use mathlib.Core.Bool.{Bool, true, false, cond, not, _&&_}
 use mathlib.Core.List.{List, [], _∷_}
-use Prim.Native.Nat.{ℕ, _-_}
-use lib.Dec.{eqb, ltb}
-use Rattle.serial.specs.Serial.{isBefore}
+use Prim.Native.Nat.{ℕ}
+use lib.Dec.{eqb}
 use Rattle.receive.specs.Window.{acceptable, lacksRoom}
 use Rattle.segment.specs.declared.Segment.{Segment}
-use Rattle.segment.specs.declared.Timestamps.{Timestamps}
 use Rattle.send.specs.Send.{isUnsent}
+use Rattle.timestamps.specs.Timestamps.{isMissing, isOld}
 use Rattle.connection.specs.declared.Connection.{Connection}
-use Rattle.connection.specs.declared.Timestamping.{Timestamping}
 use Rattle.connection.specs.Numbers.{Answer, Decision, dropSilent, dropWithAck, reset, take}
-use Rattle.connection.specs.Opening.{hasTimestamps}
+use Rattle.connection.specs.Opening.{tsvalOf}
 
--- document 01's "outdated": more than 2,073,600,000 ms (24 days) since TS.Recent was set
-unfoldable pub outdated : Timestamping → ℕ → Bool
-outdated t clock = ltb 2073600000 (clock - t .since)
+-- the rows of timestamps look at TSval and RST
+abbrev pub lacksTimestamp : Connection → Segment → Bool
+lacksTimestamp k s = isMissing (k .timestamping) (tsvalOf (s .options .timestamps)) (s .flags .rst)
 
--- TSval before TS.Recent
-unfoldable pub valueBefore : ℕ → Timestamps → Bool
-valueBefore recent Timestamps.Absent = false
-valueBefore recent (Timestamps.Pair value echoed) = isBefore (value .0) recent
-
--- timestamps in force, none here, no RST
-unfoldable pub lacksTimestamp : Timestamping → Segment → Bool
-lacksTimestamp t s = t .active && (not (hasTimestamps (s .options .timestamps)) && not (s .flags .rst))
-
--- timestamps in force, no RST, TSval before TS.Recent, TS.Recent not outdated
-unfoldable pub hasOldTimestamp : Timestamping → ℕ → Segment → Bool
-hasOldTimestamp t clock s =
-    t .active && (not (s .flags .rst) && (valueBefore (t .recent .0) (s .options .timestamps) && not (outdated t clock)))
+abbrev pub hasOldTimestamp : Connection → ℕ → Segment → Bool
+hasOldTimestamp k clock s = isOld (k .timestamping) clock (tsvalOf (s .options .timestamps)) (s .flags .rst)
 
 abbrev pub isAcceptable : Connection → Segment → Bool
 isAcceptable k s = acceptable (k .receive) (s .seq .0) (s .len)
@@ -45,8 +32,8 @@ row number holds answer = record { number = number; holds = holds; answer = answ
 
 unfoldable pub rows : Connection → ℕ → Segment → List Row
 rows k clock s =
-    row 21 (lacksTimestamp (k .timestamping) s) dropSilent
-    ∷ row 22 (hasOldTimestamp (k .timestamping) clock s) dropWithAck
+    row 21 (lacksTimestamp k s) dropSilent
+    ∷ row 22 (hasOldTimestamp k clock s) dropWithAck
     ∷ row 23 (not (isAcceptable k s) && s .flags .rst) dropSilent
     ∷ row 24 (not (isAcceptable k s) && not (s .flags .rst)) dropWithAck
     ∷ row 25 (s .flags .rst && eqb (s .seq .0) (k .receive .nxt .0)) reset

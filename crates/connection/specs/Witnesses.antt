@@ -19,6 +19,7 @@ use Rattle.segment.specs.Options.{blocksFrom, faultAt, faultIn, isRepeated, isW
 use Rattle.segment.specs.Reading.{optionsRead, reading, segmentOf}
 use Rattle.segment.specs.declared.Refusal.{Refusal}
 use Rattle.send.specs.Send as send
+use Rattle.timestamps.specs.Timestamps as timestamps
 use Rattle.connection.specs.declared.ArriveOutcome.{ArriveOutcome}
 use Rattle.connection.specs.declared.ArriveRefusal.{ArriveRefusal}
 use Rattle.connection.specs.declared.Connection.{Connection}
@@ -28,9 +29,9 @@ use Rattle.connection.specs.declared.Reason.{Reason}
 use Rattle.connection.specs.declared.Verdict.{Verdict}
 use Rattle.connection.specs.Numbers.{Decision, dropSilent, dropWithAck, openNumber, outcomeOf, refuse, reset, take}
 use Rattle.connection.specs.Record.{Answer, blank}
-use Rattle.connection.specs.Opening.{isNotSyn, isWrongAck, opening, openingFrom, openingRead, recordFrom, recordWith, timestampingFrom}
-use Rattle.connection.specs.Verdict.{hasOldTimestamp, lacksTimestamp, outdated, rows, valueBefore}
-use Rattle.connection.specs.Taking.{fedBy, isRecorded, listed, recordAfter, replacesRecent, sampleOf, timestampingAfter}
+use Rattle.connection.specs.Opening.{isNotSyn, isWrongAck, opening, openingFrom, openingRead, recordFrom, recordWith}
+use Rattle.connection.specs.Verdict.{rows}
+use Rattle.connection.specs.Taking.{fedBy, listed, recordAfter, sampleOf}
 use Rattle.connection.specs.Arriving.{Arrival, arriving, arrivingRead, judged, settled, takenBy}
 use Rattle.connection.specs.Operations.{acknowledged, expired, sent, windowOpened}
 use Rattle.connection.specs.Calls.{Call, Incoming, Opened, acknowledgment, arrival, expiry, openedBy, read, run, sending, timerCall, timerCalls, unread, window}
@@ -441,9 +442,9 @@ unfolding outcomes openOutcomes openings verdicts answers operations runs fedCal
     receive.lacksRoom receive.newPart receive.opened receive.windowOpened isBroken padding paddingRule blocksFrom faultAt faultIn isRepeated
     isWrongLength lengthsOf oneToFour optionIn optionsOf standsIn optionsRead reading segmentOf send.opened send.isNew send.acknowledged
     send.isCurrent send.isLater send.updatesWindow send.windowed send.taken send.exceedsWindow send.sent send.isListed blank isNotSyn
-    isWrongAck opening openingFrom openingRead recordFrom recordWith timestampingFrom hasOldTimestamp lacksTimestamp outdated rows valueBefore fedBy
-    isRecorded listed recordAfter replacesRecent sampleOf timestampingAfter arriving arrivingRead judged settled takenBy acknowledged
-    expired sent windowOpened Option·elim
+    isWrongAck opening openingFrom openingRead recordFrom recordWith timestamps.opened timestamps.isOld timestamps.isMissing timestamps.outdated
+    timestamps.valueBefore timestamps.isRecorded timestamps.replacesRecent timestamps.taken rows fedBy listed recordAfter sampleOf arriving
+    arrivingRead judged settled takenBy acknowledged expired sent windowOpened Option·elim
 witnesses = (refl, refl, refl, refl, refl, refl, refl, refl)
 
 -- so there is an opening that is not refused

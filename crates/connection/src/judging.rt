@@ -8,8 +8,7 @@ ghost use Rattle.connection.specs.Verdict.{decided, rows};
 use super::Connection;
 use super::Reason;
 use super::Verdict;
-use super::timestamps::are_missing;
-use super::timestamps::are_old;
+use super::taking::tsval_of;
 use segment::Segment;
 
 // 21 to 24, then the others.
@@ -17,11 +16,13 @@ pub fn judge(k: Connection, clock: u64, s: Segment) -> Verdict
     requires { ⌜ Sound k ⌝ }
     ensures { λ v. ⌜ verdictOf v ≡ decided (rows k clock s) ⌝ }
 {
-    let timestamping = k.timestamping;
-    if are_missing(timestamping, s) {
+    let options = s.options;
+    let timestamps = options.timestamps;
+    let tsval = tsval_of(timestamps);
+    if k.timestamping.is_missing(tsval, s.flags.rst) {
         return Verdict::Silent(Reason::TimestampMissing);
     }
-    if are_old(timestamping, clock, s) {
+    if k.timestamping.is_old(clock, tsval, s.flags.rst) {
         return Verdict::WithAck(Reason::TimestampOld);
     }
     if k.receive.is_acceptable(s.seq, s.len) {

@@ -3,7 +3,6 @@ mod judging;
 mod listing;
 mod opening;
 mod taking;
-mod timestamps;
 
 ghost use mathlib.Core.Path.{_≡_};
 ghost use Rattle.connection.specs.Numbers.{arriveRefusalNumber, openNumber, openRefusalNumber, outcomeOf, reasonNumber, verdictOf};
@@ -23,18 +22,7 @@ use segment::Segment;
 use send::Send;
 use send::SentOutcome;
 use serial::Seq;
-use serial::Stamp;
-
-// The timestamps of a connection.
-pub struct Timestamping {
-    // Whether they are in force.
-    pub active: bool,
-    // TS.Recent, and the clock at which it was last set.
-    pub recent: Stamp,
-    pub since: u64,
-    // What is added to the clock to make our timestamp.
-    pub offset: u32,
-}
+use timestamps::Timestamping;
 
 pub struct Connection {
     pub receive: Receive,

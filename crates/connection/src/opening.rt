@@ -8,9 +8,8 @@ use super::OpenAnswer;
 use super::OpenOutcome;
 use super::OpenRefusal;
 use super::Setup;
-use super::Timestamping;
 use super::taking::seg_of;
-use super::timestamps;
+use super::taking::tsval_of;
 use offers::InForce;
 use offers::Offers;
 use offers::Scale;
@@ -22,6 +21,7 @@ use segment::WindowScale;
 use send::Send;
 use serial::Seq;
 use serial::Stamp;
+use timestamps::Timestamping;
 
 // The MSS of a SYN that has none.
 const DEFAULT_MSS: u16 = 536;
@@ -52,7 +52,7 @@ fn peer_offers(syn: Segment) -> Offers
     let window_scale = options.scale;
     let pair = options.timestamps;
     let scale = scale(window_scale);
-    let timestamps = timestamps::are_present(pair);
+    let timestamps = tsval_of(pair).is_present();
     let sack = options.permitted;
     Offers {
         scale,
@@ -91,7 +91,8 @@ fn record_with(force: InForce, own: Setup, clock: u64, syn: Segment) -> Connecti
     let receive = Receive::new(syn.seq.moved(1), own.window, force.shifts.receive as u32);
     let seg = seg_of(syn);
     let send = Send::new(own.iss, force.shifts.send as u32, seg, syn.flags.ack);
-    let timestamping = timestamps::opened(force.timestamps, own.offset, clock, pair);
+    let tsval = tsval_of(pair);
+    let timestamping = Timestamping::new(force.timestamps, own.offset, clock, tsval);
     let sack = force.sack;
     let mss = mss(mss_option);
     let timer = Timer::new();

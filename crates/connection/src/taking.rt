@@ -1,17 +1,16 @@
 // What taking a segment does to a record.
 ghost use mathlib.Core.Path.{_≡_};
 ghost use Rattle.rto.specs.Calls.{run};
-ghost use Rattle.connection.specs.Opening.{segOf};
+ghost use Rattle.connection.specs.Opening.{segOf, tsvalOf};
 ghost use Rattle.connection.specs.Record.{Sound};
 ghost use Rattle.connection.specs.Taking.{fedBy, recordAfter, sampleOf};
 use super::Connection;
-use super::Timestamping;
-use super::timestamps;
 use rto::Timer;
 use segment::Segment;
 use segment::Timestamps;
 use send::Seg;
-use serial::Stamp;
+use timestamps::Timestamping;
+use timestamps::Tsval;
 
 // What a segment tells the send side.
 pub fn seg_of(s: Segment) -> Seg
@@ -23,6 +22,15 @@ pub fn seg_of(s: Segment) -> Seg
     Seg { seq, ack, window }
 }
 
+pub fn tsval_of(timestamps: Timestamps) -> Tsval
+    ensures { λ r. ⌜ r ≡ tsvalOf timestamps ⌝ }
+{
+    match timestamps {
+        Timestamps::Absent => Tsval::Absent,
+        Timestamps::Pair(value, _) => Tsval::Value(value),
+    }
+}
+
 // The timer after the sample that an echoed timestamp gives.
 fn fed(timer: Timer, t: Timestamping, clock: u64, timestamps: Timestamps) -> Timer
     ensures { λ r. ⌜ r ≡ run timer (sampleOf t clock timestamps) ⌝ }
@@ -30,8 +38,7 @@ fn fed(timer: Timer, t: Timestamping, clock: u64, timestamps: Timestamps) -> Tim
     let Timestamps::Pair(_, echoed) = timestamps else {
         return timer;
     };
-    let rtt = Stamp::at(clock, t.offset).round_trip(echoed);
-    timer.feed(rtt)
+    timer.feed(t.sample(clock, echoed))
 }
 
 // The timer after a take: a new ACK with timestamps gives a sample.
@@ -61,7 +68,8 @@ pub fn record_after(k: Connection, clock: u64, s: Segment) -> Connection
     let receive = k.receive.take(s.seq, s.len);
     let seg = seg_of(s);
     let send = k.send.take(seg);
-    let timestamping = timestamps::after(k.timestamping, clock, k.receive.acked, s.seq, timestamps);
+    let tsval = tsval_of(timestamps);
+    let timestamping = k.timestamping.take(clock, k.receive.acked, s.seq, tsval);
     let timer = timer_after(k, clock, s);
     Connection {
         receive,

@@ -1,6 +1,4 @@
 // A call read from standard input: the octet that names it, the length of its body, and the body.
-ghost use mathlib.Core.Path.{_≡_};
-ghost use lib.ListN.{length};
 use crate::body;
 use libc::STDIN_FILENO;
 
@@ -14,13 +12,6 @@ pub enum Input {
     Bad,
     // The end of the script.
     End,
-}
-
-// Room for a body.
-pub fn space() -> [u8; 65664]
-    ensures { λ r. ⌜ 65664 ≡ length r ⌝ }
-{
-    [0; 65664]
 }
 
 // Reads the next call, and puts its body at the start of `body`.

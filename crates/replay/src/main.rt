@@ -1,88 +1,88 @@
 // Replays a script of calls from standard input on one connection record and one timer, and writes a line or two of text for each.
 mod body;
 mod input;
+mod letters;
 mod queries;
 mod record_calls;
-mod session;
+mod state;
 mod state_lines;
 mod text;
 mod timer_calls;
 
 ghost use Rattle.connection.specs.Record.{Sound};
 use input::Input;
-use libc::STDOUT_FILENO;
-use session::Session;
-use session::Step;
+use state::State;
 
-// The session after a turn, and whether another turn follows.
+// The state after a turn, and whether another turn follows.
 struct Turn {
-    session: Session,
+    state: State,
     more: bool,
 }
 
 fn main() {
-    let mut body = input::space();
-    let mut line = text::space();
-    play(&mut body, &mut line);
+    let mut body = body::space();
+    play(&mut body);
 }
 
 // A proved loop has to end, so it counts down from a number that no script uses up.
-fn play(body: &mut [u8], line: &mut [u8]) {
-    let mut session = session::new();
+fn play(body: &mut [u8]) {
+    let mut state = state::new();
     let mut turns = u64::MAX;
     while 0 < turns {
-        let turn = play_one(session, body, line);
+        let turn = play_one(state, body);
         if !turn.more {
             return;
         }
-        session = turn.session;
+        state = turn.state;
         turns -= 1;
     }
 }
 
 // Reads one call, makes it and writes its answer.
-fn play_one(session: Session, body: &mut [u8], line: &mut [u8]) -> Turn
-    requires { ⌜ Sound (session .connection) ⌝ }
-    ensures { λ r. ⌜ Sound (r .session .connection) ⌝ }
+fn play_one(state: State, body: &mut [u8]) -> Turn
+    requires { ⌜ Sound (state .connection) ⌝ }
+    ensures { λ r. ⌜ Sound (r .state .connection) ⌝ }
 {
     let input = input::next(body);
     match input {
-        Input::End => last(session),
+        Input::End => last(state),
         Input::Bad => {
-            io::write_all(STDOUT_FILENO, b"bad\n");
-            last(session)
+            text::word(b"bad\n");
+            last(state)
         }
-        Input::Call(call, length) => {
-            let step = answer(session, call, body::first_mut(body, length), line);
-            let more = io::write_all(STDOUT_FILENO, body::first(line, step.length));
-            let session = step.session;
-            Turn { session, more }
-        }
+        Input::Call(call, length) => play_call(state, call, body::first(body, length)),
     }
 }
 
-fn last(session: Session) -> Turn
-    requires { ⌜ Sound (session .connection) ⌝ }
-    ensures { λ r. ⌜ Sound (r .session .connection) ⌝ }
+fn last(state: State) -> Turn
+    requires { ⌜ Sound (state .connection) ⌝ }
+    ensures { λ r. ⌜ Sound (r .state .connection) ⌝ }
 {
-    Turn {
-        session,
-        more: false,
-    }
+    Turn { state, more: false }
 }
 
-// Makes a call, and puts its answer into the line.
-fn answer(session: Session, call: u8, body: &mut [u8], line: &mut [u8]) -> Step
-    requires { ⌜ Sound (session .connection) ⌝ }
-    ensures { λ r. ⌜ Sound (r .session .connection) ⌝ }
+// Makes a call, and ends the last line of its answer.
+fn play_call(state: State, call: u8, body: &[u8]) -> Turn
+    requires { ⌜ Sound (state .connection) ⌝ }
+    ensures { λ r. ⌜ Sound (r .state .connection) ⌝ }
+{
+    let state = answer(state, call, body);
+    let more = text::newline();
+    Turn { state, more }
+}
+
+// Makes a call, and writes its answer.
+fn answer(state: State, call: u8, body: &[u8]) -> State
+    requires { ⌜ Sound (state .connection) ⌝ }
+    ensures { λ r. ⌜ Sound (r .connection) ⌝ }
 {
     match call {
-        4 => record_calls::open(session, body, line),
-        5..=9 => record_calls::answer(session, call, body, line),
-        10..=12 => timer_calls::answer(session, call, body, line),
+        4 => record_calls::open(state, body),
+        5..=9 => record_calls::answer(state, call, body),
+        10..=12 => timer_calls::answer(state, call, body),
         _ => {
-            let length = queries::answer(call, body, line);
-            Step { session, length }
+            queries::answer(call, body);
+            state
         }
     }
 }

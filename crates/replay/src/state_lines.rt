@@ -1,136 +1,115 @@
 // The lines of a record and of a timer, and the ranges that an answer lists.
-use crate::session::Session;
+use crate::state::State;
 use crate::text;
 use connection::Connection;
-use connection::Timestamping;
 use receive::Held;
 use receive::Receive;
 use rto::Timer;
 use segment::SackBlocks;
 use send::Send;
 use serial::Range;
+use timestamps::Timestamping;
 
-// The line of the session's record.
-pub fn record_line(line: &mut [u8], at: usize, session: Session) -> usize {
-    let end = text::word(line, at, b"record");
-    if !session.open {
-        let end = text::absent(line, end);
-        return text::newline(line, end);
+// The line of the state's record.
+pub fn record_line(state: State) {
+    text::word(b"record");
+    if !state.open {
+        text::absent();
+        return;
     }
-    let end = connection_numbers(line, end, session.connection);
-    text::newline(line, end)
+    connection_numbers(state.connection);
 }
 
 // The line of a timer.
-pub fn timer_line(line: &mut [u8], at: usize, timer: Timer) -> usize {
-    let end = text::word(line, at, b"timer-state");
-    let end = timer_numbers(line, end, timer);
-    text::newline(line, end)
+pub fn timer_line(timer: Timer) {
+    text::word(b"timer-state");
+    timer_numbers(timer);
 }
 
 // The number of SACK blocks, and their edges.
-pub fn blocks(line: &mut [u8], at: usize, blocks: SackBlocks) -> usize {
+pub fn blocks(blocks: SackBlocks) {
     match blocks {
-        SackBlocks::Absent => text::number(line, at, 0),
+        SackBlocks::Absent => text::number(0),
         SackBlocks::One(a) => {
-            let end = text::number(line, at, 1);
-            edges(line, end, a)
+            text::number(1);
+            edges(a);
         }
         SackBlocks::Two(a, b) => {
-            let end = text::number(line, at, 2);
-            edges_of_two(line, end, a, b)
+            text::number(2);
+            edges(a);
+            edges(b);
         }
         SackBlocks::Three(a, b, c) => {
-            let end = text::number(line, at, 3);
-            let end = edges_of_two(line, end, a, b);
-            edges(line, end, c)
+            text::number(3);
+            edges(a);
+            edges(b);
+            edges(c);
         }
         SackBlocks::Four(a, b, c, d) => {
-            let end = text::number(line, at, 4);
-            let end = edges_of_two(line, end, a, b);
-            edges_of_two(line, end, c, d)
+            text::number(4);
+            edges(a);
+            edges(b);
+            edges(c);
+            edges(d);
         }
     }
 }
 
-fn connection_numbers(line: &mut [u8], at: usize, k: Connection) -> usize {
-    let end = receive_numbers(line, at, k.receive);
-    let end = send_numbers(line, end, k.send);
-    let end = extensions(line, end, k);
-    let end = held_ranges(line, end, k.receive.held);
-    timer_numbers(line, end, k.timer)
+fn connection_numbers(k: Connection) {
+    receive_numbers(k.receive);
+    send_numbers(k.send);
+    timestamping(k.timestamping);
+    text::two(text::bit(k.sack), text::from_u16(k.mss));
+    held_ranges(k.receive.held);
+    timer_numbers(k.timer);
 }
 
-// Timestamps, SACK and the MSS.
-fn extensions(line: &mut [u8], at: usize, k: Connection) -> usize {
-    let end = timestamping(line, at, k.timestamping);
-    let end = text::flag(line, end, k.sack);
-    text::number(line, end, k.mss as u64)
+fn receive_numbers(r: Receive) {
+    text::four(r.nxt.0, r.window, r.acked.0, r.shift);
 }
 
-fn edges(line: &mut [u8], at: usize, range: Range) -> usize {
-    let end = text::number(line, at, range.left.0 as u64);
-    text::number(line, end, range.right.0 as u64)
+fn send_numbers(s: Send) {
+    text::three(s.shift, s.una.0, s.nxt.0);
+    text::three(s.window, s.wl1.0, s.wl2.0);
 }
 
-fn edges_of_two(line: &mut [u8], at: usize, first: Range, second: Range) -> usize {
-    let end = edges(line, at, first);
-    edges(line, end, second)
+fn timestamping(t: Timestamping) {
+    text::two(text::bit(t.active), t.recent.0);
+    text::long(t.since);
+    text::number(t.offset);
 }
 
 // The number of ranges held, and their edges, newest first.
-fn held_ranges(line: &mut [u8], at: usize, held: Held) -> usize {
-    let mut end = text::number(line, at, held.count as u64);
+fn held_ranges(held: Held) {
+    text::long(held.count as u64);
     let mut i = 0;
     while i < 8 {
-        end = held_range(line, end, held, i);
+        held_range(held, i);
         i += 1;
     }
-    end
 }
 
 // The edges of the range in this slot, nothing where the slot is unused.
-fn held_range(line: &mut [u8], at: usize, held: Held, slot: usize) -> usize {
+fn held_range(held: Held, slot: usize) {
     if held.count <= slot {
-        return at;
+        return;
     }
     if 8 <= slot {
-        return at;
+        return;
     }
     let range = held.ranges[slot];
-    edges(line, at, range)
+    edges(range);
 }
 
-fn receive_numbers(line: &mut [u8], at: usize, r: Receive) -> usize {
-    let end = text::number(line, at, r.nxt.0 as u64);
-    let end = text::number(line, end, r.window as u64);
-    let end = text::number(line, end, r.acked.0 as u64);
-    text::number(line, end, r.shift as u64)
+fn edges(range: Range) {
+    text::two(range.left.0, range.right.0);
 }
 
-fn send_numbers(line: &mut [u8], at: usize, s: Send) -> usize {
-    let end = text::number(line, at, s.shift as u64);
-    let end = text::number(line, end, s.una.0 as u64);
-    let end = text::number(line, end, s.nxt.0 as u64);
-    send_window(line, end, s)
-}
-
-fn send_window(line: &mut [u8], at: usize, s: Send) -> usize {
-    let end = text::number(line, at, s.window as u64);
-    let end = text::number(line, end, s.wl1.0 as u64);
-    text::number(line, end, s.wl2.0 as u64)
-}
-
-fn timestamping(line: &mut [u8], at: usize, t: Timestamping) -> usize {
-    let end = text::flag(line, at, t.active);
-    let end = text::number(line, end, t.recent.0 as u64);
-    let end = text::number(line, end, t.since);
-    text::number(line, end, t.offset as u64)
-}
-
-fn timer_numbers(line: &mut [u8], at: usize, timer: Timer) -> usize {
-    let end = text::flag(line, at, timer.sampled);
-    let end = text::number(line, end, timer.srtt as u64);
-    let end = text::number(line, end, timer.rttvar as u64);
-    text::number(line, end, timer.timeout as u64)
+fn timer_numbers(timer: Timer) {
+    text::four(
+        text::bit(timer.sampled),
+        timer.srtt,
+        timer.rttvar,
+        timer.timeout,
+    );
 }

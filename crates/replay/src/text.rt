@@ -1,83 +1,109 @@
-// Text put into a line: each function puts it at a place, and answers the place after it. The line has room for the longest answer.
+// Text written to standard output: the words of a line, and its fields, each with a space before it.
 ghost use mathlib.Core.Path.{_≡_};
-ghost use Prim.Native.Nat.{_<_};
+ghost use Prim.Native.Nat.{_≤_};
 ghost use lib.ListN.{length};
+use crate::body;
+use crate::letters;
+use libc::STDOUT_FILENO;
 
-// Room for the longest answer: the buffer of an acknowledgment in hexadecimal, and a record.
-pub fn space() -> [u8; 140000]
-    ensures { λ r. ⌜ 140000 ≡ length r ⌝ }
-{
-    [0; 140000]
+// Letters as they stand; whether they were written.
+pub fn word(letters: &[u8]) -> bool {
+    io::write_all(STDOUT_FILENO, letters)
 }
 
-pub fn letter(line: &mut [u8], at: usize, letter: u8) -> usize {
-    if line.len() <= at {
-        return at;
-    }
-    line[at] = letter;
-    at + 1
-}
-
-pub fn word(line: &mut [u8], at: usize, letters: &[u8]) -> usize {
-    let mut end = at;
-    let mut i = 0;
-    while i < letters.len() {
-        end = letter(line, end, letters[i]);
-        i += 1;
-    }
-    end
+pub fn newline() -> bool {
+    word(b"\n")
 }
 
 // The first word of a line, and the number after it.
-pub fn start(line: &mut [u8], first: &[u8], n: u64) -> usize {
-    let end = word(line, 0, first);
-    number(line, end, n)
+pub fn start(first: &[u8], n: u8) {
+    word(first);
+    number(from_u8(n));
 }
 
-pub fn newline(line: &mut [u8], at: usize) -> usize {
-    letter(line, at, b'\n')
+pub fn number(n: u32) {
+    long(from_u32(n));
 }
 
-// A number, after a space.
-pub fn number(line: &mut [u8], at: usize, n: u64) -> usize {
-    let end = letter(line, at, b' ');
-    decimal(line, end, n)
+pub fn long(n: u64) {
+    let mut line = [0u8; 24];
+    let end = letters::number(&mut line, 0, n);
+    word(body::first(&line, end));
 }
 
-// What is absent, after a space.
-pub fn absent(line: &mut [u8], at: usize) -> usize {
-    word(line, at, b" -")
+// Several numbers at once: each write is a call of the system.
+pub fn two(a: u32, b: u32) {
+    let mut line = [0u8; 48];
+    let end = letters::number(&mut line, 0, from_u32(a));
+    let end = letters::number(&mut line, end, from_u32(b));
+    word(body::first(&line, end));
 }
 
-// 0 or 1, after a space.
-pub fn flag(line: &mut [u8], at: usize, set: bool) -> usize {
-    if set {
-        return word(line, at, b" 1");
+pub fn three(a: u32, b: u32, c: u32) {
+    two(a, b);
+    number(c);
+}
+
+pub fn four(a: u32, b: u32, c: u32, d: u32) {
+    two(a, b);
+    two(c, d);
+}
+
+pub fn flag(set: bool) {
+    number(bit(set));
+}
+
+// A number that may be negative.
+pub fn signed(n: i32) {
+    if n < 0 {
+        word(b" -");
+        digits(magnitude(n));
+        return;
     }
-    word(line, at, b" 0")
+    long(magnitude(n));
 }
 
-// A number that may be negative, after a space.
-pub fn signed(line: &mut [u8], at: usize, n: i32) -> usize {
-    if 0 <= n {
-        return number(line, at, magnitude(n));
-    }
-    let end = word(line, at, b" -");
-    decimal(line, end, magnitude(n))
+// What is absent.
+pub fn absent() {
+    word(b" -");
 }
 
-// Octets in hexadecimal, run together, after a space.
-pub fn octets(line: &mut [u8], at: usize, octets: &[u8]) -> usize {
+// Octets in hexadecimal, run together.
+pub fn octets(octets: &[u8]) {
     if octets.len() == 0 {
-        return absent(line, at);
+        absent();
+        return;
     }
-    let mut end = letter(line, at, b' ');
-    let mut i = 0;
-    while i < octets.len() {
-        end = hexadecimal(line, end, octets[i]);
-        i += 1;
-    }
-    end
+    let mut line = space();
+    let end = letters::octets(&mut line, octets);
+    word(b" ");
+    word(body::first(&line, end));
+}
+
+// 1 for what is set, 0 for what is not.
+pub fn bit(set: bool) -> u32
+    ensures { λ r. ⌜ r ≤ 1 ⌝ }
+{
+    if set { 1 } else { 0 }
+}
+
+// Numbers widened. A field's own cast would be proved anew at each place.
+pub fn from_u8(n: u8) -> u32 {
+    n as u32
+}
+
+pub fn from_u16(n: u16) -> u32 {
+    n as u32
+}
+
+fn from_u32(n: u32) -> u64 {
+    n as u64
+}
+
+fn digits(n: u64) {
+    let mut line = [0u8; 20];
+    let count = io::decimal(n, &mut line);
+    word(&line[..count]);
 }
 
 // A number without its sign; -2^31 is turned round by way of -1 - n, which an i32 holds.
@@ -88,22 +114,9 @@ fn magnitude(n: i32) -> u64 {
     (-1 - n) as u64 + 1
 }
 
-fn decimal(line: &mut [u8], at: usize, n: u64) -> usize {
-    let mut digits = [0u8; 20];
-    let count = io::decimal(n, &mut digits);
-    word(line, at, &digits[..count])
-}
-
-fn hexadecimal(line: &mut [u8], at: usize, octet: u8) -> usize {
-    let end = letter(line, at, digit(octet / 16));
-    letter(line, end, digit(octet % 16))
-}
-
-fn digit(n: u8) -> u8
-    requires { ⌜ n < 16 ⌝ }
+// Room for the longest body in hexadecimal.
+fn space() -> [u8; 131328]
+    ensures { λ r. ⌜ 131328 ≡ length r ⌝ }
 {
-    if n < 10 {
-        return b'0' + n;
-    }
-    b'a' + (n - 10)
+    [0; 131328]
 }

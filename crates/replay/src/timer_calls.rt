@@ -1,52 +1,41 @@
 // Calls on the timer that stands by itself: a new one, a sample, an expiry.
 ghost use Rattle.connection.specs.Record.{Sound};
-use crate::session::Session;
-use crate::session::Step;
+use crate::state::State;
 use crate::state_lines;
 use crate::text;
 use rto::SampleAnswer;
 use rto::Timer;
 
-// The timer after a call, and where the text of the call ends.
-struct Called {
-    timer: Timer,
-    end: usize,
-}
-
-// Makes a call on the timer, and puts its answer into the line.
-pub fn answer(session: Session, call: u8, body: &[u8], line: &mut [u8]) -> Step
-    requires { ⌜ Sound (session .connection) ⌝ }
-    ensures { λ r. ⌜ Sound (r .session .connection) ⌝ }
+// Makes a call on the timer, and writes its answer.
+pub fn answer(state: State, call: u8, body: &[u8]) -> State
+    requires { ⌜ Sound (state .connection) ⌝ }
+    ensures { λ r. ⌜ Sound (r .connection) ⌝ }
 {
-    let called = call_timer(session.timer, call, body, line);
-    let timer = called.timer;
-    let end = text::newline(line, called.end);
-    let length = state_lines::timer_line(line, end, timer);
-    let session = Session { timer, ..session };
-    Step { session, length }
+    let timer = after(state.timer, call, body);
+    text::newline();
+    state_lines::timer_line(timer);
+    State { timer, ..state }
 }
 
-fn call_timer(timer: Timer, call: u8, body: &[u8], line: &mut [u8]) -> Called {
+fn after(timer: Timer, call: u8, body: &[u8]) -> Timer {
     match call {
         10 => {
-            let timer = Timer::new();
-            let end = text::word(line, 0, b"timer");
-            Called { timer, end }
+            text::word(b"timer");
+            Timer::new()
         }
-        11 => sample(timer, octets::read_u32(body, 0), line),
+        11 => sample(timer, octets::read_u32(body, 0)),
         _ => {
-            let timer = timer.expire();
-            let end = text::word(line, 0, b"expiry");
-            Called { timer, end }
+            text::word(b"expiry");
+            timer.expire()
         }
     }
 }
 
-fn sample(timer: Timer, rtt: u32, line: &mut [u8]) -> Called {
+fn sample(timer: Timer, rtt: u32) -> Timer {
     let answer = timer.sample(rtt);
-    let end = text::start(line, b"sample", answer.number() as u64);
+    text::start(b"sample", answer.number());
     match answer {
-        SampleAnswer::Moved(moved) => Called { timer: moved, end },
-        SampleAnswer::Refused => Called { timer, end },
+        SampleAnswer::Moved(moved) => moved,
+        SampleAnswer::Refused => timer,
     }
 }

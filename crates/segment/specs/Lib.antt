@@ -4,9 +4,7 @@ pub mod Reading
 pub mod Readable
 pub mod Part
 pub mod Internal
-pub mod Writing
 pub mod Cases
 pub mod Vectors
 pub mod FieldVectors
 pub mod FoundVectors
-pub mod WritingVectors

@@ -1,17 +1,15 @@
-// A TCP segment: header, options and where the payload lies, read from any octets; header and options, written.
+// A TCP segment: header, options and where the payload lies, read from any octets.
 mod finding;
 mod fixed_header;
-mod kinds;
+pub mod kinds;
 mod places;
 mod rules;
 mod values;
-mod writer;
 
 ghost use mathlib.Core.Path.{_≡_};
 ghost use denote.Ref.{ptr};
 ghost use Rattle.segment.specs.Part.{IsPart};
 ghost use Rattle.segment.specs.Reading.{foundOption, numberOf, reading, shown};
-ghost use Rattle.segment.specs.Writing.{numberOfWriting, shownWriting, writing};
 use rules::Listing;
 use serial::Range;
 use serial::Seq;
@@ -137,39 +135,6 @@ impl Reading {
     }
 }
 
-// The ports of a segment that is written.
-pub struct Ports {
-    pub source: u16,
-    pub destination: u16,
-}
-
-// The fields of a header that is written; its checksum and urgent field are 0.
-pub struct Header {
-    pub ports: Ports,
-    pub seq: Seq,
-    pub ack: Seq,
-    pub flags: Flags,
-    pub window: u16,
-}
-
-// How many octets were written, or E7.
-pub enum Writing {
-    Octets(usize),
-    BufferTooShort,
-}
-
-impl Writing {
-    // The refusal's number, 0 where octets were written.
-    pub fn number(self) -> u8
-        ensures { λ r. ⌜ r ≡ numberOfWriting self ⌝ }
-    {
-        match self {
-            Writing::Octets(_) => 0,
-            Writing::BufferTooShort => 7,
-        }
-    }
-}
-
 // Reads a segment, or says why it is refused: E1, E2, E3, then the options from left to right.
 pub fn read(segment: &[u8]) -> Reading
     ensures { λ r. ⌜ shown r ≡ reading (now (segment .entry)) ⌝ }
@@ -212,21 +177,4 @@ pub fn find_option<'a>(segment: &'a [u8], kinds: &[u8]) -> &'a [u8]
             finding::first_listed(&segment[0..end], kinds)
         }
     }
-}
-
-// Writes header and options of a segment without payload at the start of the buffer, and leaves the octets after them. Of the SACK blocks
-// as many are written as fit. A buffer that is too short stays as it is.
-pub fn write(header: Header, options: Options, buffer: &mut [u8]) -> Writing
-    ensures { λ r. ⌜ shownWriting r (now (buffer .exit)) ≡ writing header options (now (buffer .entry)) ⌝ }
-{
-    let reported = options.blocks;
-    let others = writer::others_size(options);
-    let blocks = writer::fitting(others, reported);
-    let size = FIXED_HEADER + others + writer::sack_size(blocks);
-    if buffer.len() < size {
-        return Writing::BufferTooShort;
-    }
-    writer::write_header(buffer, header, (size / 4) as u8);
-    writer::write_options(buffer, options, blocks);
-    Writing::Octets(size)
 }

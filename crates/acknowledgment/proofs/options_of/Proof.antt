@@ -1,8 +1,8 @@
 -- `acknowledgment::options_of` meets its contract. Assumes nothing.
 use mathlib.Core.Path.{sym, ap, _∙_}
 use borrow.Author.Needs.{needs}
-use Rattle.segment.proofs.BlockLists.{blocks-back}
-use Rattle.segment.specs.Writing.{blocksOfList}
+use Rattle.writer.specs.Writing.{blocksOfList}
+use Rattle.writer.proofs.BlockLists.{blocks-back}
 use Rattle.acknowledgment.specs.Acknowledgment.{optionsOf}
 use Rattle.acknowledgment.proofs.options_of.Statement.{statement}
 use Rattle.acknowledgment.proofs.options_of.Tie as tie

@@ -3,11 +3,11 @@ use native.Mathlib.Omega.{arith}
 use mathlib.Core.Path.{_≡_, sym}
 use denote.Ref.{now}
 use borrow.Author.Needs.{needs}
-use Rattle.segment.specs.Writing.{shownWriting}
-use Rattle.segment.specs.declared.Writing.{Writing}
+use Rattle.writer.specs.Writing.{shownWriting}
+use Rattle.writer.specs.declared.Writing.{Writing}
 use Rattle.connection.proofs.Keeping.{acknowledged-sound}
-use Rattle.acknowledgment.proofs.Answers.{by-writing, clock-back-if}
 use Rattle.acknowledgment.specs.Acknowledgment.{acknowledging, answeredBy}
+use Rattle.acknowledgment.proofs.Answers.{by-writing, clock-back-if}
 use Rattle.acknowledgment.proofs.write.Statement.{statement}
 use Rattle.acknowledgment.proofs.write.Tie as tie
 

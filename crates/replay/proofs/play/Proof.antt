@@ -1,4 +1,4 @@
--- Every turn hands on a sound record; body and line keep their lengths.
+-- Every turn hands on a sound record; the body keeps its length.
 -- Assumes nothing.
 use mathlib.Core.Path.{_≡_}
 use lib.ListN.{length}
@@ -8,10 +8,10 @@ use Rattle.replay.proofs.play.Statement.{statement}
 use Rattle.replay.proofs.play.Tie as tie
 
 abbrev Inv-loop : tie.InvT-loop
-Inv-loop body₀ line₀ session₀ turns₀ body line session turns = Sound (session .connection) × (length body ≡ length body₀) × (length line ≡ length line₀)
+Inv-loop body₀ state₀ turns₀ body state turns = Sound (state .connection) × (length body ≡ length body₀)
 
 abbrev μ-loop : tie.MeasureT-loop
-μ-loop body₀ line₀ session₀ turns₀ body line session turns = turns
+μ-loop body₀ state₀ turns₀ body state turns = turns
 
 new-requires : tie.Need-new-requires Inv-loop μ-loop
 new-requires c κs = search needs
@@ -25,9 +25,6 @@ play-one-requires c κs = search needs
 same-length : tie.Need-same-length Inv-loop μ-loop
 same-length c = search needs
 
-same-length-2 : tie.Need-same-length-2 Inv-loop μ-loop
-same-length-2 c = search needs
-
 returns : tie.Need-returns Inv-loop μ-loop
 returns c = search needs
 
@@ -40,11 +37,8 @@ loop-less c = search needs
 loop-again : tie.Need-loop-again Inv-loop μ-loop
 loop-again c = search needs
 
-same-length-3 : tie.Need-same-length-3 Inv-loop μ-loop
-same-length-3 c = search needs
-
-same-length-4 : tie.Need-same-length-4 Inv-loop μ-loop
-same-length-4 c = search needs
+same-length-2 : tie.Need-same-length-2 Inv-loop μ-loop
+same-length-2 c = search needs
 
 returns-2 : tie.Need-returns-2 Inv-loop μ-loop
 returns-2 c = search needs
@@ -59,11 +53,9 @@ play-spec =
     loop-holds
     play-one-requires
     same-length
-    same-length-2
     returns
     sub-turns
     loop-less
     loop-again
-    same-length-3
-    same-length-4
+    same-length-2
     returns-2)

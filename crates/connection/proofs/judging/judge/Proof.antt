@@ -12,29 +12,35 @@ use Rattle.connection.proofs.judging.judge.Tie as tie
 
 -- neither 21 nor 22 holds
 abbrev Timely : Connection → ℕ → Segment → Type 0
-Timely k clock s = (lacksTimestamp (k .timestamping) s ≡ false) × (hasOldTimestamp (k .timestamping) clock s ≡ false)
+Timely k clock s = (lacksTimestamp k s ≡ false) × (hasOldTimestamp k clock s ≡ false)
 
-timely-at : (c : tie.Else2) → let a = c .before .before .before .before .before .args in Timely (a .k) (a .clock) (a .s)
-timely-at c =
-    let stamped = sym (c .before .before .before .are-missing .ensures) ∙ c .before .before .if1 .left in
-    let current = sym (c .before .are-old .ensures) ∙ c .if2 .left in
-    (stamped, current)
+stamped-at : (c : tie.Else1) → let a = c .before .before .before .before .args in lacksTimestamp (a .k) (a .s) ≡ false
+stamped-at c = rw (sym (c .before .before .tsval-of .ensures)) (sym (c .before .is-missing .ensures) ∙ c .if1 .left)
 
-are-missing-requires : tie.Need-are-missing-requires
-are-missing-requires c κs = search needs
+timely-at : (c : tie.Else2) → let a = c .before .before .before .before .before .before .args in Timely (a .k) (a .clock) (a .s)
+timely-at c = (
+  stamped-at (c .before .before),
+  rw (sym (c .before .before .before .before .tsval-of .ensures)) (sym (c .before .is-old .ensures) ∙ c .if2 .left),
+)
+
+tsval-of-requires : tie.Need-tsval-of-requires
+tsval-of-requires c κs = search needs
+
+is-missing-requires : tie.Need-is-missing-requires
+is-missing-requires c κs = search needs
 
 returns : tie.Need-returns
 unfolding rows
-returns c = rw (sym (c .before .are-missing .ensures) ∙ c .if1 .taken)
+returns c = rw (sym (c .before .before .tsval-of .ensures), sym (c .before .is-missing .ensures) ∙ c .if1 .taken)
 
-are-old-requires : tie.Need-are-old-requires
-are-old-requires c κs = search needs
+is-old-requires : tie.Need-is-old-requires
+is-old-requires c κs = search needs
 
 returns-2 : tie.Need-returns-2
 unfolding rows
 returns-2 c =
-    let stamped = sym (c .before .before .before .are-missing .ensures) ∙ c .before .before .if1 .left in
-    rw (stamped, sym (c .before .are-old .ensures) ∙ c .if2 .taken)
+    let tsval = c .before .before .before .before in
+    rw (stamped-at (c .before .before), sym (tsval .tsval-of .ensures), sym (c .before .is-old .ensures) ∙ c .if2 .taken)
 
 is-acceptable-requires : tie.Need-is-acceptable-requires
 is-acceptable-requires c κs = search needs
@@ -47,7 +53,7 @@ unfolding rows
 returns-3 c =
     let timely = timely-at (c .before .before .before) in
     let inside = sym (c .before .before .is-acceptable .ensures) ∙ c .before .if3 .taken in
-    rw (timely .0, timely .1, inside) (c .judge-acceptable .ensures (c .before .before .before .before .before .before .before .before .args .clock))
+    rw (timely .0, timely .1, inside) (c .judge-acceptable .ensures (c .before .before .before .before .before .before .before .before .before .args .clock))
 
 returns-4 : tie.Need-returns-4
 unfolding rows
@@ -67,9 +73,10 @@ pub judge-spec : {M : Type 1} → statement M
 judge-spec =
     tie.close
     (tie.spec
-    are-missing-requires
+    tsval-of-requires
+    is-missing-requires
     returns
-    are-old-requires
+    is-old-requires
     returns-2
     is-acceptable-requires
     judge-acceptable-requires

@@ -1,4 +1,4 @@
--- The fields are those that the two calls give.
+-- The fields are those that the calls give.
 -- Assumes nothing.
 use borrow.Author.Needs.{needs}
 use Rattle.connection.proofs.opening.peer_offers.Statement.{statement}
@@ -7,11 +7,14 @@ use Rattle.connection.proofs.opening.peer_offers.Tie as tie
 scale-requires : tie.Need-scale-requires
 scale-requires c κs = search needs
 
-are-present-requires : tie.Need-are-present-requires
-are-present-requires c κs = search needs
+tsval-of-requires : tie.Need-tsval-of-requires
+tsval-of-requires c κs = search needs
+
+is-present-requires : tie.Need-is-present-requires
+is-present-requires c κs = search needs
 
 returns : tie.Need-returns
-returns c = rw (c .before .scale .ensures, c .are-present .ensures)
+returns c = rw (c .before .before .scale .ensures, c .is-present .ensures, c .before .tsval-of .ensures)
 
 pub peer-offers-spec : {M : Type 1} → statement M
-peer-offers-spec = tie.close (tie.spec scale-requires are-present-requires returns)
+peer-offers-spec = tie.close (tie.spec scale-requires tsval-of-requires is-present-requires returns)

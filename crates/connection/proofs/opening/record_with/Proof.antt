@@ -23,20 +23,24 @@ cast-new-2 c = search needs
 new-requires-2 : tie.Need-new-requires-2
 new-requires-2 c κs = search needs
 
-opened-requires : tie.Need-opened-requires
-opened-requires c κs = search needs
-
-mss-requires : tie.Need-mss-requires
-mss-requires c κs = search needs
+tsval-of-requires : tie.Need-tsval-of-requires
+tsval-of-requires c κs = search needs
 
 new-requires-3 : tie.Need-new-requires-3
 new-requires-3 c κs = search needs
 
+mss-requires : tie.Need-mss-requires
+mss-requires c κs = search needs
+
+new-requires-4 : tie.Need-new-requires-4
+new-requires-4 c κs = search needs
+
 returns : tie.Need-returns
 unfolding recordWith
 returns c =
-    let opened = c .before .before in
-    let send = opened .before in
+    let timestamping = c .before .before in
+    let tsval = timestamping .before in
+    let send = tsval .before in
     let seg = send .before .before in
     let receive = seg .before in
     rw (
@@ -44,9 +48,10 @@ returns c =
       receive .before .before .moved .ensures,
       send .new2 .ensures,
       seg .seg-of .ensures,
-      opened .opened .ensures,
+      timestamping .new3 .ensures,
+      tsval .tsval-of .ensures,
       c .before .mss .ensures,
-      c .new3 .ensures,
+      c .new4 .ensures,
     )
 
 pub record-with-spec : {M : Type 1} → statement M
@@ -59,7 +64,8 @@ record-with-spec =
     seg-of-requires
     cast-new-2
     new-requires-2
-    opened-requires
-    mss-requires
+    tsval-of-requires
     new-requires-3
+    mss-requires
+    new-requires-4
     returns)

@@ -1,4 +1,4 @@
--- The sample is what the two calls make of clock, offset and TSecr.
+-- The sample is what the timestamps make of the clock and TSecr.
 -- Assumes nothing.
 use Rattle.connection.specs.Taking.{sampleOf}
 use borrow.Author.Needs.{needs}
@@ -15,18 +15,15 @@ returns : tie.Need-returns
 unfolding sampleOf
 returns c = rw (c .enum-told .given .1)
 
-at-requires : tie.Need-at-requires
-at-requires c κs = search needs
-
-round-trip-requires : tie.Need-round-trip-requires
-round-trip-requires c κs = search needs
+sample-requires : tie.Need-sample-requires
+sample-requires c κs = search needs
 
 feed-requires : tie.Need-feed-requires
 feed-requires c κs = search needs
 
 returns-2 : tie.Need-returns-2
 unfolding sampleOf
-returns-2 c = rw (c .before .before .before .before .timestamps .given .1, c .feed .ensures, c .before .round-trip .ensures, c .before .before .at .ensures)
+returns-2 c = rw (c .before .before .before .timestamps .given .1, c .feed .ensures, c .before .sample .ensures)
 
 pub fed-spec : {M : Type 1} → statement M
 fed-spec =
@@ -35,7 +32,6 @@ fed-spec =
     enum-known-timestamps
     enum-told
     returns
-    at-requires
-    round-trip-requires
+    sample-requires
     feed-requires
     returns-2)

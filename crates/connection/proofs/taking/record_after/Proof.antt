@@ -14,8 +14,11 @@ seg-of-requires c κs = search needs
 take-requires-2 : tie.Need-take-requires-2
 take-requires-2 c κs = search needs
 
-after-requires : tie.Need-after-requires
-after-requires c κs = search needs
+tsval-of-requires : tie.Need-tsval-of-requires
+tsval-of-requires c κs = search needs
+
+take-requires-3 : tie.Need-take-requires-3
+take-requires-3 c κs = search needs
 
 timer-after-requires : tie.Need-timer-after-requires
 timer-after-requires c κs = search needs
@@ -23,9 +26,17 @@ timer-after-requires c κs = search needs
 returns : tie.Need-returns
 unfolding recordAfter
 returns c =
-    let receive = c .before .before .before .before .take .ensures .0 in
-    let send = c .before .before .take2 .ensures .0 in
-    rw (c .timer-after .ensures, c .before .after .ensures, send, c .before .before .before .seg-of .ensures, receive)
+    let tsval = c .before .before in
+    let send = tsval .before in
+    let receive = send .before .before in
+    rw (
+      c .timer-after .ensures,
+      c .before .take3 .ensures,
+      tsval .tsval-of .ensures,
+      send .take2 .ensures .0,
+      send .before .seg-of .ensures,
+      receive .take .ensures .0,
+    )
 
 pub record-after-spec : {M : Type 1} → statement M
 record-after-spec =
@@ -34,6 +45,7 @@ record-after-spec =
     take-requires
     seg-of-requires
     take-requires-2
-    after-requires
+    tsval-of-requires
+    take-requires-3
     timer-after-requires
     returns)

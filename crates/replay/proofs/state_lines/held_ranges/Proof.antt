@@ -1,20 +1,18 @@
--- Slot by slot; the line keeps its length.
+-- Slot by slot.
 -- Assumes nothing.
-use mathlib.Core.Path.{_≡_}
 use Prim.Native.Nat.{_-_, _≤_}
-use lib.ListN.{length}
 use borrow.Author.Needs.{needs}
 use Rattle.replay.proofs.state_lines.held_ranges.Statement.{statement}
 use Rattle.replay.proofs.state_lines.held_ranges.Tie as tie
 
 abbrev Inv-loop : tie.InvT-loop
-Inv-loop line₀ at held end₀ i₀ line end i = (length line ≡ length line₀) × (i ≤ 8)
+Inv-loop held i₀ i = i ≤ 8
 
 abbrev μ-loop : tie.MeasureT-loop
-μ-loop line₀ at held end₀ i₀ line end i = 8 - i
+μ-loop held i₀ i = 8 - i
 
-number-requires : tie.Need-number-requires Inv-loop μ-loop
-number-requires c κs = search needs
+long-requires : tie.Need-long-requires Inv-loop μ-loop
+long-requires c κs = search needs
 
 loop-holds : tie.Need-loop-holds Inv-loop μ-loop
 loop-holds c = search needs
@@ -31,9 +29,6 @@ loop-less c = search needs
 loop-again : tie.Need-loop-again Inv-loop μ-loop
 loop-again c = search needs
 
-same-length : tie.Need-same-length Inv-loop μ-loop
-same-length c = search needs
-
 returns : tie.Need-returns Inv-loop μ-loop
 returns c = search needs
 
@@ -43,11 +38,10 @@ held-ranges-spec =
     (tie.spec
     Inv-loop
     μ-loop
-    number-requires
+    long-requires
     loop-holds
     held-range-requires
     add-i
     loop-less
     loop-again
-    same-length
     returns)

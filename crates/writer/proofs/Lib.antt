@@ -1,0 +1,8 @@
+pub mod Answers
+pub mod BlockLists
+pub mod FlagsBack
+pub mod KindsRead
+pub mod Lengths
+mod OptionsBack
+pub mod ReadBack
+mod Storing
