@@ -26,7 +26,7 @@ use Rattle.connection.specs.declared.Setup.{Setup}
 use Rattle.connection.specs.Numbers.{openNumber}
 use Rattle.connection.specs.Record.{Answer, blank}
 
--- what a segment tells the send side, and its TSval
+-- what a segment tells the send side, and what it tells the timestamps
 abbrev pub segOf : Segment → Seg
 segOf s = record { seq = s .seq; ack = s .ack; window = s .window }
 

@@ -22,6 +22,7 @@ pub fn seg_of(s: Segment) -> Seg
     Seg { seq, ack, window }
 }
 
+// What a segment tells the timestamps.
 pub fn tsval_of(timestamps: Timestamps) -> Tsval
     ensures { λ r. ⌜ r ≡ tsvalOf timestamps ⌝ }
 {

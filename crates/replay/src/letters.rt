@@ -1,6 +1,7 @@
 // Letters put into a line in memory: each function puts them at a place, and answers the place after them. What does not fit is left out.
 ghost use Prim.Native.Nat.{_<_};
 
+// A number, after a space.
 pub fn number(line: &mut [u8], at: usize, n: u64) -> usize {
     let mut digits = [0u8; 20];
     let count = io::decimal(n, &mut digits);
@@ -18,6 +19,7 @@ fn word(line: &mut [u8], at: usize, letters: &[u8]) -> usize {
     end
 }
 
+// Octets in hexadecimal, from the line's start.
 pub fn octets(line: &mut [u8], octets: &[u8]) -> usize {
     let mut end = 0;
     let mut i = 0;

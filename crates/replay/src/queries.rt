@@ -122,14 +122,14 @@ fn distance_for_c(body: &[u8]) {
     distance_line(gateway::noppalerk_distance(from, to));
 }
 
-fn refusal(segment: &[u8]) {
-    text::word(b"refusal");
-    text::number(gateway::noppalerk_refusal(segment));
-}
-
 fn distance_line(distance: i32) {
     text::word(b"distance");
     text::signed(distance);
+}
+
+fn refusal(segment: &[u8]) {
+    text::word(b"refusal");
+    text::number(gateway::noppalerk_refusal(segment));
 }
 
 fn milliseconds(body: &[u8]) {

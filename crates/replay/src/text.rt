@@ -87,7 +87,7 @@ pub fn bit(set: bool) -> u32
     if set { 1 } else { 0 }
 }
 
-// Numbers widened. A field's own cast would be proved anew at each place.
+// Numbers widened by a call, which is proved sooner than the cast of a struct's field.
 pub fn from_u8(n: u8) -> u32 {
     n as u32
 }
