@@ -1,5 +1,6 @@
 mod Blocks
 mod ByOctet
+pub mod FlagsRead
 mod Gathering
 pub mod Induction
 pub mod Inside

@@ -1,6 +1,5 @@
 pub mod Answers
 pub mod BlockLists
-pub mod FlagsBack
 pub mod KindsRead
 pub mod Lengths
 mod OptionsBack

@@ -7,17 +7,22 @@ use lib.ListN.{drop, getD, length, take}
 use lib.Seq.{take-all, take-append-seam}
 use Rattle.octets.specs.Octets.{bigEndian, numberAt}
 use Rattle.octets.proofs.ReadBack.{numberAt-bigEndian}
-use Rattle.segment.specs.Reading.{dataOffset, lenOf, optionOctets, readAs, reading, segmentOf, stepsOf}
+use Rattle.segment.specs.Reading.{dataOffset, flagsOf, lenOf, optionOctets, readAs, reading, segmentOf, stepsOf}
+use Rattle.segment.specs.declared.Flags.{Flags}
 use Rattle.segment.specs.declared.Options.{Options}
+use Rattle.segment.proofs.FlagsRead.{flags-read}
 use Rattle.segment.proofs.OptionsRead.{Said}
 use Rattle.segment.proofs.Readable.{Passed, read-if}
-use Rattle.writer.specs.Writing.{blocksOfList, fitting, headerWritten, optionsWritten, segmentWritten, writing, written}
+use Rattle.writer.specs.Writing.{blocksOfList, fitting, flagsWritten, headerWritten, optionsWritten, segmentWritten, writing, written}
 use Rattle.writer.specs.declared.Header.{Header}
 use Rattle.writer.proofs.Answers.{writes-if}
-use Rattle.writer.proofs.FlagsBack.{flags-back}
 use Rattle.writer.proofs.KindsRead.{withBlocks}
 use Rattle.writer.proofs.Lengths.{length-options, length-written, units, units-most}
 use Rattle.writer.proofs.OptionsBack.{options-read}
+
+pub flags-back : (f : Flags) → flagsOf (flagsWritten f) ≡ f
+unfolding flagsWritten
+flags-back f = flags-read f
 
 module _ (h : Header) (o : Options) where
   offset-is : dataOffset (written h o) ≡ 5 + units o

@@ -1,4 +1,4 @@
--- The flags that are written are read back. Assumes nothing.
+-- The flags of an octet, by the weight of each. Assumes nothing.
 use mathlib.Core.Bool.{Bool, true, false, cond}
 use mathlib.Core.List.{List, [], _∷_}
 use mathlib.Core.Path.{_≡_}
@@ -7,9 +7,8 @@ use native.Mathlib.Numerals.{one-add}
 use native.Mathlib.Omega.{arith}
 use lib.ListN.{getD}
 use lib.Pow.{shr-le, shr-shr}
 use Rattle.segment.specs.Reading.{bit, flagsOf}
 use Rattle.segment.specs.declared.Flags.{Flags}
-use Rattle.writer.specs.Writing.{flagsWritten}
 
 -- the number of these bits, the lowest first
 abbrev fromBits : List Bool → ℕ
@@ -44,11 +43,16 @@ weighs : (flag : Bool) (n : ℕ) → cond flag n 0 ≡ n * cond flag 1 0
 weighs true n = omega arith
 weighs false n = omega arith
 
-pub flags-back : (f : Flags) → flagsOf (flagsWritten f) ≡ f
-unfolding flagsWritten
-flags-back f =
+-- octet 13, from bit 7: CWR ECE URG ACK PSH RST SYN FIN
+abbrev pub octetOf : Flags → ℕ
+octetOf f =
+    cond (f .cwr) 128 0 + cond (f .ece) 64 0 + cond (f .urg) 32 0 + cond (f .ack) 16 0
+    + cond (f .psh) 8 0 + cond (f .rst) 4 0 + cond (f .syn) 2 0 + cond (f .fin) 1 0
+
+pub flags-read : (f : Flags) → flagsOf (octetOf f) ≡ f
+flags-read f =
     let bits : List Bool = f .fin ∷ f .syn ∷ f .rst ∷ f .psh ∷ f .ack ∷ f .urg ∷ f .ece ∷ f .cwr ∷ [] in
-    let octet : flagsWritten f ≡ fromBits bits = omega (
+    let octet : octetOf f ≡ fromBits bits = omega (
       arith,
       weighs (f .cwr) 128,
       weighs (f .ece) 64,
