@@ -10,7 +10,8 @@ use mir.Syntax.{w32}
 use mir.Val.{toZ, ofZ}
 use mir.ValLaws.{toZ-ofZ}
 use borrow.Author.Tests.{lt-ltb, le-ltb}
-use Rattle.serial.specs.Serial.{IsDistance, distanceOf, isAtOrBefore, isBefore, offsetOf}
+use Rattle.serial.specs.Serial.{IsDistance, distanceOf, isAtOrBefore, isBefore, movedBy, offsetOf}
+use Rattle.serial.proofs.Offset.{offset-both-moved}
 
 -- x - y, by the order of x and y
 sub-cases : (P : ℤ → Type 0) (x y : ℕ) → (y ≤ x → P (pos (x - y))) → (x < y → P (negsuc (y - suc x))) → P (subℕ x y)
@@ -50,6 +51,11 @@ module _ (a b : ℕ) (h : offsetOf a b ≡ 2 ^ 31) where
 
   pub neither-at-or-before : (isAtOrBefore a b ≡ false) × (isAtOrBefore b a ≡ false)
   neither-at-or-before = rw (half-way a b h, half-way b a back) (refl, refl)
+
+-- both moved on by n, the distance stays
+pub distance-both-moved : (a b n : ℕ) → distanceOf (movedBy a n) (movedBy b n) ≡ distanceOf a b
+unfolding distanceOf
+distance-both-moved a b n = ap (λ o. subℕ ((o + 2 ^ 31) % 2 ^ 32) (2 ^ 31)) (offset-both-moved a b n)
 
 -- a signed result is what its bits are read as
 pub read-back : (z : ℤ) → mag z < 2 ^ 31 → toZ w32 (ofZ w32 z) ≡ z

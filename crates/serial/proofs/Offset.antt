@@ -25,3 +25,8 @@ offset-moved base o small = omega arith
 pub offset-from-moved : (base n x : ℕ) → n ≤ offsetOf base x → offsetOf (movedBy base n) x ≡ offsetOf base x - n
 offset-from-moved base n x past =
     sym (offset-only (movedBy base n) x (offsetOf base x - n) (omega (arith, offset-below base x)) (omega (arith, moved-offset base x)))
+
+-- both moved on by n, they lie as far apart as before
+pub offset-both-moved : (base x n : ℕ) → offsetOf (movedBy base n) (movedBy x n) ≡ offsetOf base x
+offset-both-moved base x n =
+    sym (offset-only (movedBy base n) (movedBy x n) (offsetOf base x) (offset-below base x) (omega (arith, moved-offset base x)))
