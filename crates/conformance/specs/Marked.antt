@@ -24,7 +24,7 @@ use Rattle.receive.specs.Ranges.{heldOf, isOutOfOrder, joined, leftOf, meets, n
 use Rattle.receive.specs.Taking as taking
 use Rattle.receive.specs.Window as receive
 use Rattle.send.specs.Send as send
-use Rattle.send.specs.declared.Seg.{Seg}
+use Rattle.send.specs.declared.AckFields.{AckFields}
 use Rattle.timestamps.specs.Timestamps as timestamps
 use Rattle.connection.specs.Arriving.{arriving, arrivingRead, judged, settled, takenBy}
 use Rattle.connection.specs.Calls.{Call, arrival, called, run, unread}
@@ -47,8 +47,8 @@ pub data Fact : Type 0 where
   ranges : List Range → Fact
 
 -- what a segment tells the send side: SEQ, ACK, window
-seg : ℕ → ℕ → ℕ → Seg
-seg seq ack window = record { seq = record { 0 = seq }; ack = record { 0 = ack }; window = window }
+ackFieldsOf : ℕ → ℕ → ℕ → AckFields
+ackFieldsOf seq ack window = record { seq = record { 0 = seq }; ack = record { 0 = ack }; window = window }
 
 -- window scaling offered with this shift, and nothing else
 scaling : ℕ → Offers
@@ -91,7 +91,7 @@ worked M2 = integer (distanceOf 0 (2 ^ 31)) ∷ []
 worked M3 = integer (distanceOf 0 (2 ^ 31 - 1)) ∷ []
 -- SND.WND after a segment with window 65,535, where the send shift is 14; then whether it is below 2^30
 worked M4 =
-    let window = send.taken (send.opened 1000 14 (seg 4999 0 8192) false) (seg 5000 1001 65535) .window in
+    let window = send.taken (send.opened 1000 14 (ackFieldsOf 4999 0 8192) false) (ackFieldsOf 5000 1001 65535) .window in
     number window ∷ holds (ltb window (2 ^ 30)) ∷ []
 -- the send shift in force: we offer 7, the peer 15
 worked M5 = number (inForce (scaling 7) (scaling 15) .shifts .send) ∷ []
@@ -130,7 +130,7 @@ paper M12 = number 256032 ∷ number 96064 ∷ number 2502 ∷ []
 -- M10 is computed segment by segment, since nothing is shared within one computation: this is the record after the segment at WL1, which
 -- holds ranges of 500 numbers from these on. Whoever unfolds it unfolds all that the cases are computed with.
 after : List ℕ → ℕ → Connection
-unfolding seg scaling segment at own opened permitted optionOctets distanceOf offsetOf bigEndian numberAt Option·elim
+unfolding ackFieldsOf scaling segment at own opened permitted optionOctets distanceOf offsetOf bigEndian numberAt Option·elim
     isBroken padding paddingRule options.faultAt options.faultIn options.isRepeated options.isWrongLength options.lengthsOf
     options.oneToFour options.optionIn options.optionsOf options.standsIn optionsRead reading segmentOf exceedLimits inForce shiftsInForce
     heldOf isOutOfOrder joined leftOf meets noRoom rangeOf rangesAfter rangesOf rightOf taking.advanced taking.holding taking.taken

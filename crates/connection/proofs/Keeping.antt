@@ -19,7 +19,7 @@ use Rattle.connection.specs.declared.Connection.{Connection}
 use Rattle.connection.specs.declared.Setup.{Setup}
 use Rattle.connection.specs.Numbers.{Decision}
 use Rattle.connection.specs.Record.{Answer, Sound, blank}
-use Rattle.connection.specs.Opening.{isNotSyn, isWrongAck, opening, openingFrom, openingRead, peerOffers, recordFrom, recordWith, refusedOpening, segOf}
+use Rattle.connection.specs.Opening.{isNotSyn, isWrongAck, opening, openingFrom, openingRead, peerOffers, recordFrom, recordWith, refusedOpening, ackFieldsOf}
 use Rattle.connection.specs.Verdict.{decided, rows}
 use Rattle.connection.specs.Taking.{fedBy, recordAfter}
 use Rattle.connection.specs.Arriving.{Arrival, arriving, arrivingRead, isTake, judged, settled, takenBy}
@@ -43,7 +43,7 @@ record-sound own clock syn kept =
       receive-sound =
           opening-side.opened-sound (movedBy (syn .seq .0) 1) (own .window) _ (omega arith) (shifts .0)
           (window-most (own .offers) (own .window) kept);
-      send-sound = send-side.opened-sound (own .iss .0) _ (segOf syn) (syn .flags .ack) (shifts .1);
+      send-sound = send-side.opened-sound (own .iss .0) _ (ackFieldsOf syn) (syn .flags .ack) (shifts .1);
       timer-sound = sound-new;
     }
 
@@ -80,7 +80,7 @@ module _ (k : Connection) (h : Sound k) where
   unfolding recordAfter
   record-after-sound clock s = record {
     receive-sound = receive-side.taken-sound (k .receive) (s .seq .0) (s .len) (h .receive-sound);
-    send-sound = send-side.taken-sound (k .send) (segOf s) (h .send-sound);
+    send-sound = send-side.taken-sound (k .send) (ackFieldsOf s) (h .send-sound);
     timer-sound = sound-run (fedBy k clock s) (k .timer) (h .timer-sound);
   }
 

@@ -2,7 +2,7 @@
 use mathlib.Core.List.{List}
 use mathlib.Core.Path.{_≡_}
 use Rattle.rto.specs.Calls as rto
-use Rattle.rto.specs.Demand.{OnTime, SampleStands}
+use Rattle.rto.specs.Demand.{OnTime, NoExpirySinceSample}
 use Rattle.rto.specs.Exact.{exactRun, unset}
 use Rattle.rto.specs.Timer.{newTimer}
 use Rattle.connection.specs.declared.Connection.{Connection}
@@ -20,5 +20,5 @@ TimerFollows = (k : Connection) → Opened k → (calls : List Call) → run k c
 -- demand 3 in a record
 unfoldable pub Demand3 : Type 0
 Demand3 =
-    (k : Connection) → Opened k → (calls : List Call) → SampleStands (timerCalls k calls)
+    (k : Connection) → Opened k → (calls : List Call) → NoExpirySinceSample (timerCalls k calls)
     → OnTime (run k calls .timer .timeout) (exactRun unset (timerCalls k calls))

@@ -17,7 +17,7 @@ use Rattle.segment.specs.declared.Segment.{Segment}
 use Rattle.segment.specs.declared.Timestamps.{Timestamps}
 use Rattle.segment.specs.declared.WindowScale.{WindowScale}
 use Rattle.send.specs.Send as send
-use Rattle.send.specs.declared.Seg.{Seg}
+use Rattle.send.specs.declared.AckFields.{AckFields}
 use Rattle.timestamps.specs.Timestamps as timestamps
 use Rattle.timestamps.specs.declared.Tsval.{Tsval}
 use Rattle.connection.specs.declared.Connection.{Connection}
@@ -27,8 +27,8 @@ use Rattle.connection.specs.Numbers.{openNumber}
 use Rattle.connection.specs.Record.{Answer, blank}
 
 -- what a segment tells the send side, and what it tells the timestamps
-abbrev pub segOf : Segment → Seg
-segOf s = record { seq = s .seq; ack = s .ack; window = s .window }
+abbrev pub ackFieldsOf : Segment → AckFields
+ackFieldsOf s = record { seq = s .seq; ack = s .ack; window = s .window }
 
 abbrev pub tsvalOf : Timestamps → Tsval
 tsvalOf Timestamps.Absent = Tsval.Absent
@@ -63,7 +63,7 @@ mssOf (Mss.Octets n) = n
 unfoldable pub recordWith : InForce → Setup → ℕ → Segment → Connection
 recordWith force own clock syn = record {
   receive = receive.opened (movedBy (syn .seq .0) 1) (own .window) (force .shifts .receive);
-  send = send.opened (own .iss .0) (force .shifts .send) (segOf syn) (syn .flags .ack);
+  send = send.opened (own .iss .0) (force .shifts .send) (ackFieldsOf syn) (syn .flags .ack);
   timestamping = timestamps.opened (force .timestamps) (own .offset) clock (tsvalOf (syn .options .timestamps));
   sack = force .sack;
   mss = mssOf (syn .options .mss);

@@ -14,7 +14,7 @@ use Rattle.send.specs.Send as send
 use Rattle.timestamps.specs.Timestamps as timestamps
 use Rattle.timestamps.specs.declared.Timestamping.{Timestamping}
 use Rattle.connection.specs.declared.Connection.{Connection}
-use Rattle.connection.specs.Opening.{segOf, tsvalOf}
+use Rattle.connection.specs.Opening.{ackFieldsOf, tsvalOf}
 
 -- the sample R that the segment's TSecr gives
 unfoldable pub sampleOf : Timestamping → ℕ → Timestamps → List Call
@@ -30,7 +30,7 @@ fedBy k clock s =
 unfoldable pub recordAfter : Connection → ℕ → Segment → Connection
 recordAfter k clock s = record {
   receive = receive.taken (k .receive) (newPart (k .receive) (s .seq .0) (s .len));
-  send = send.taken (k .send) (segOf s);
+  send = send.taken (k .send) (ackFieldsOf s);
   timestamping = timestamps.taken (k .timestamping) clock (k .receive .acked .0) (s .seq .0) (tsvalOf (s .options .timestamps));
   sack = k .sack;
   mss = k .mss;

@@ -1,25 +1,25 @@
 // What taking a segment does to a record.
 ghost use mathlib.Core.Path.{_≡_};
 ghost use Rattle.rto.specs.Calls.{run};
-ghost use Rattle.connection.specs.Opening.{segOf, tsvalOf};
+ghost use Rattle.connection.specs.Opening.{ackFieldsOf, tsvalOf};
 ghost use Rattle.connection.specs.Record.{Sound};
 ghost use Rattle.connection.specs.Taking.{fedBy, recordAfter, sampleOf};
 use super::Connection;
 use rto::Timer;
 use segment::Segment;
 use segment::Timestamps;
-use send::Seg;
+use send::AckFields;
 use timestamps::Timestamping;
 use timestamps::Tsval;
 
 // What a segment tells the send side.
-pub fn seg_of(s: Segment) -> Seg
-    ensures { λ r. ⌜ r ≡ segOf s ⌝ }
+pub fn ack_fields_of(s: Segment) -> AckFields
+    ensures { λ r. ⌜ r ≡ ackFieldsOf s ⌝ }
 {
     let seq = s.seq;
     let ack = s.ack;
     let window = s.window;
-    Seg { seq, ack, window }
+    AckFields { seq, ack, window }
 }
 
 // What a segment tells the timestamps.
@@ -67,8 +67,8 @@ pub fn record_after(k: Connection, clock: u64, s: Segment) -> Connection
     let options = s.options;
     let timestamps = options.timestamps;
     let receive = k.receive.take(s.seq, s.len);
-    let seg = seg_of(s);
-    let send = k.send.take(seg);
+    let fields = ack_fields_of(s);
+    let send = k.send.take(fields);
     let tsval = tsval_of(timestamps);
     let timestamping = k.timestamping.take(clock, k.receive.acked, s.seq, tsval);
     let timer = timer_after(k, clock, s);

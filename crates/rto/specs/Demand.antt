@@ -14,7 +14,7 @@ RefusedSamples (sample r ∷ cs) = (600000 < r) × RefusedSamples cs
 RefusedSamples (expiry ∷ cs) = ⊥
 
 -- Some sample was not refused, and no expiry came after the last such sample: what came after it are refused samples alone.
-pub record SampleStands (calls : List Call) : Type 0 where
+pub record NoExpirySinceSample (calls : List Call) : Type 0 where
   pub before : List Call
   pub rtt : ℕ
   pub after : List Call
@@ -28,4 +28,4 @@ OnTime ms unset = ⊥
 OnTime ms (set s v) = AtMost (exactValue s v) (whole ms) × Below (whole ms) (sum (exactValue s v) (divided (whole 330) 256))
 
 unfoldable pub Demand3 : Type 0
-Demand3 = (calls : List Call) → SampleStands calls → OnTime (run newTimer calls .timeout) (exactRun unset calls)
+Demand3 = (calls : List Call) → NoExpirySinceSample calls → OnTime (run newTimer calls .timeout) (exactRun unset calls)

@@ -6,9 +6,9 @@ use Rattle.serial.specs.declared.Seq.{Seq}
 use Rattle.send.specs.Send.{Answer, acknowledged, exceedsWindow, opened, sent, taken, updatesWindow, windowed}
 use Rattle.send.specs.Sound.{Sound}
 use Rattle.send.specs.declared.Send.{Send}
-use Rattle.send.specs.declared.Seg.{Seg}
+use Rattle.send.specs.declared.AckFields.{AckFields}
 
-pub opened-sound : (iss shift : ℕ) (syn : Seg) (flag : Bool) → shift ≤ 14 → Sound (opened iss shift syn flag)
+pub opened-sound : (iss shift : ℕ) (syn : AckFields) (flag : Bool) → shift ≤ 14 → Sound (opened iss shift syn flag)
 unfolding opened
 opened-sound iss shift syn flag most = record { shift-most = most }
 
@@ -17,15 +17,15 @@ module _ (s : Send) where
   unfolding acknowledged
   acknowledged-sound ack sound = record { shift-most = sound .shift-most }
 
-  windowed-sound : (seg : Seg) → Sound s → Sound (windowed s seg)
+  windowed-sound : (fields : AckFields) → Sound s → Sound (windowed s fields)
   unfolding windowed
-  windowed-sound seg sound = record { shift-most = sound .shift-most }
+  windowed-sound fields sound = record { shift-most = sound .shift-most }
 
-pub taken-sound : (s : Send) (seg : Seg) → Sound s → Sound (taken s seg)
+pub taken-sound : (s : Send) (fields : AckFields) → Sound s → Sound (taken s fields)
 unfolding taken
-taken-sound s seg sound =
-    let next = acknowledged-sound s (seg .ack) sound in
-    either Sound (updatesWindow s seg) _ _ (λ _. windowed-sound (acknowledged s (seg .ack)) seg next) (λ _. next)
+taken-sound s fields sound =
+    let next = acknowledged-sound s (fields .ack) sound in
+    either Sound (updatesWindow s fields) _ _ (λ _. windowed-sound (acknowledged s (fields .ack)) fields next) (λ _. next)
 
 pub sent-sound : (s : Send) (n : ℕ) → Sound s → Sound (sent s n .send)
 unfolding sent

@@ -9,11 +9,11 @@ use Rattle.serial.specs.declared.Seq.{Seq}
 use Rattle.send.specs.declared.Send.{Send}
 use Rattle.send.specs.declared.SentAnswer.{SentAnswer}
 use Rattle.send.specs.declared.SentOutcome.{SentOutcome}
-use Rattle.send.specs.declared.Seg.{Seg}
+use Rattle.send.specs.declared.AckFields.{AckFields}
 
 -- SND.NXT = ISS+1; UNA = ISS+1 if the SYN has ACK, else ISS. SND.WND is the window unscaled. WL1 = SEQ; WL2 = ACK if the flag is set,
 -- else ISS.
-unfoldable pub opened : ℕ → ℕ → Seg → Bool → Send
+unfoldable pub opened : ℕ → ℕ → AckFields → Bool → Send
 opened iss shift syn flag = record {
   una = record { 0 = cond flag (movedBy iss 1) iss };
   nxt = record { 0 = movedBy iss 1 };
@@ -51,27 +51,27 @@ unfoldable pub isCurrent : Send → ℕ → Bool
 isCurrent s ack = isNew s ack || eqb ack (s .una .0)
 
 -- WL1 is before SEQ, or equal with WL2 at or before ACK
-unfoldable pub isLater : Send → Seg → Bool
-isLater s seg =
-    isBefore (s .wl1 .0) (seg .seq .0) || (eqb (s .wl1 .0) (seg .seq .0) && isAtOrBefore (s .wl2 .0) (seg .ack .0))
+unfoldable pub isLater : Send → AckFields → Bool
+isLater s fields =
+    isBefore (s .wl1 .0) (fields .seq .0) || (eqb (s .wl1 .0) (fields .seq .0) && isAtOrBefore (s .wl2 .0) (fields .ack .0))
 
-unfoldable pub updatesWindow : Send → Seg → Bool
-updatesWindow s seg = isCurrent s (seg .ack .0) && isLater s seg
+unfoldable pub updatesWindow : Send → AckFields → Bool
+updatesWindow s fields = isCurrent s (fields .ack .0) && isLater s fields
 
 -- SND.WND = window x 2^(snd shift), WL1 = SEQ, WL2 = ACK
-unfoldable pub windowed : Send → Seg → Send
-windowed s seg = record {
+unfoldable pub windowed : Send → AckFields → Send
+windowed s fields = record {
   una = s .una;
   nxt = s .nxt;
-  window = seg .window * 2 ^ (s .shift);
+  window = fields .window * 2 ^ (s .shift);
   shift = s .shift;
-  wl1 = seg .seq;
-  wl2 = seg .ack;
+  wl1 = fields .seq;
+  wl2 = fields .ack;
 }
 
 -- whether the window is updated goes by UNA before the take
-unfoldable pub taken : Send → Seg → Send
-taken s seg = cond (updatesWindow s seg) (windowed (acknowledged s (seg .ack)) seg) (acknowledged s (seg .ack))
+unfoldable pub taken : Send → AckFields → Send
+taken s fields = cond (updatesWindow s fields) (windowed (acknowledged s (fields .ack)) fields) (acknowledged s (fields .ack))
 
 -- E12: noting n sent octets with (NXT - UNA) + n above SND.WND
 unfoldable pub exceedsWindow : Send → ℕ → Bool

@@ -8,7 +8,7 @@ use Rattle.serial.specs.Serial.{distanceOf, offsetOf, range}
 use Rattle.serial.specs.declared.Range.{Range}
 use Rattle.send.specs.Send.{Answer, acknowledged, exceedsWindow, isCurrent, isLater, isListed, isNew, isUnsent, opened, sent, taken, updatesWindow, windowed}
 use Rattle.send.specs.declared.Send.{Send}
-use Rattle.send.specs.declared.Seg.{Seg}
+use Rattle.send.specs.declared.AckFields.{AckFields}
 
 -- UNA, NXT, SND.WND, shift, WL1, WL2
 side : ℕ → ℕ → ℕ → ℕ → ℕ → ℕ → Send
@@ -22,8 +22,8 @@ side una nxt window shift wl1 wl2 = record {
 }
 
 -- SEQ, ACK, window
-seg : ℕ → ℕ → ℕ → Seg
-seg seq ack window = record { seq = record { 0 = seq }; ack = record { 0 = ack }; window = window }
+fields : ℕ → ℕ → ℕ → AckFields
+fields seq ack window = record { seq = record { 0 = seq }; ack = record { 0 = ack }; window = window }
 
 answer : ℕ → Send → Answer
 answer number send = record { number = number; send = send }
@@ -31,10 +31,10 @@ answer number send = record { number = number; send = send }
 -- ISS 1000 with shift 7, then the greatest ISS; each with the ACK flag and without. No window is scaled.
 pub openings : List (Send × Send)
 openings =
-    (opened 1000 7 (seg 5000 3000 800) true, side 1001 1001 800 7 5000 3000)
-    ∷ (opened 1000 7 (seg 5000 3000 800) false, side 1000 1001 800 7 5000 1000)
-    ∷ (opened 4294967295 14 (seg 5000 3000 65535) true, side 0 0 65535 14 5000 3000)
-    ∷ (opened 4294967295 14 (seg 5000 3000 65535) false, side 4294967295 0 65535 14 5000 4294967295)
+    (opened 1000 7 (fields 5000 3000 800) true, side 1001 1001 800 7 5000 3000)
+    ∷ (opened 1000 7 (fields 5000 3000 800) false, side 1000 1001 800 7 5000 1000)
+    ∷ (opened 4294967295 14 (fields 5000 3000 65535) true, side 0 0 65535 14 5000 3000)
+    ∷ (opened 4294967295 14 (fields 5000 3000 65535) false, side 4294967295 0 65535 14 5000 4294967295)
     ∷ []
 
 -- a send side, an ACK, and whether it is of octets that were not sent: by serial distance, and not at 2^31 apart
@@ -75,44 +75,44 @@ news =
     ∷ []
 
 -- a send side, a segment, and the send side after it is taken
-pub takes : List (Send × Seg × Send)
+pub takes : List (Send × AckFields × Send)
 takes =
     -- large windows and shifts
-    (side 100 200 9 14 50 60, seg 51 150 65534, side 150 200 1073709056 14 51 150)
-    ∷ (side 100 200 9 13 50 60, seg 51 150 65535, side 150 200 536862720 13 51 150)
+    (side 100 200 9 14 50 60, fields 51 150 65534, side 150 200 1073709056 14 51 150)
+    ∷ (side 100 200 9 13 50 60, fields 51 150 65535, side 150 200 536862720 13 51 150)
     -- ACK new, at UNA, at NXT; WL1 before SEQ
-    ∷ (side 100 200 9 3 50 60, seg 51 150 7, side 150 200 56 3 51 150)
-    ∷ (side 100 200 9 3 50 60, seg 51 100 7, side 100 200 56 3 51 100)
-    ∷ (side 100 200 9 0 50 60, seg 51 200 7, side 200 200 7 0 51 200)
-    ∷ (side 200 200 9 3 50 60, seg 51 200 0, side 200 200 0 3 51 200)
+    ∷ (side 100 200 9 3 50 60, fields 51 150 7, side 150 200 56 3 51 150)
+    ∷ (side 100 200 9 3 50 60, fields 51 100 7, side 100 200 56 3 51 100)
+    ∷ (side 100 200 9 0 50 60, fields 51 200 7, side 200 200 7 0 51 200)
+    ∷ (side 200 200 9 3 50 60, fields 51 200 0, side 200 200 0 3 51 200)
     -- ACK before UNA, past NXT, and 2^31 from NXT: nothing changes
-    ∷ (side 100 200 9 3 50 60, seg 51 99 7, side 100 200 9 3 50 60)
-    ∷ (side 100 200 9 3 50 60, seg 51 201 7, side 100 200 9 3 50 60)
-    ∷ (side 100 200 9 3 50 60, seg 51 2147483848 7, side 100 200 9 3 50 60)
+    ∷ (side 100 200 9 3 50 60, fields 51 99 7, side 100 200 9 3 50 60)
+    ∷ (side 100 200 9 3 50 60, fields 51 201 7, side 100 200 9 3 50 60)
+    ∷ (side 100 200 9 3 50 60, fields 51 2147483848 7, side 100 200 9 3 50 60)
     -- UNA of before is old after a new ACK
-    ∷ (taken (side 100 200 9 3 50 60) (seg 51 150 7), seg 52 100 6, side 150 200 56 3 51 150)
+    ∷ (taken (side 100 200 9 3 50 60) (fields 51 150 7), fields 52 100 6, side 150 200 56 3 51 150)
     -- WL1 before SEQ: WL2 does not count
-    ∷ (side 100 200 9 3 50 199, seg 51 150 7, side 150 200 56 3 51 150)
+    ∷ (side 100 200 9 3 50 199, fields 51 150 7, side 150 200 56 3 51 150)
     -- WL1 equal to SEQ: WL2 before ACK, at ACK, after ACK
-    ∷ (side 100 200 9 3 50 149, seg 50 150 7, side 150 200 56 3 50 150)
-    ∷ (side 100 200 9 3 50 150, seg 50 150 7, side 150 200 56 3 50 150)
-    ∷ (side 100 200 9 3 50 151, seg 50 150 7, side 150 200 9 3 50 151)
+    ∷ (side 100 200 9 3 50 149, fields 50 150 7, side 150 200 56 3 50 150)
+    ∷ (side 100 200 9 3 50 150, fields 50 150 7, side 150 200 56 3 50 150)
+    ∷ (side 100 200 9 3 50 151, fields 50 150 7, side 150 200 9 3 50 151)
     -- the same with ACK at UNA
-    ∷ (side 100 200 9 3 50 100, seg 50 100 7, side 100 200 56 3 50 100)
-    ∷ (side 100 200 9 3 50 101, seg 50 100 7, side 100 200 9 3 50 101)
+    ∷ (side 100 200 9 3 50 100, fields 50 100 7, side 100 200 56 3 50 100)
+    ∷ (side 100 200 9 3 50 101, fields 50 100 7, side 100 200 9 3 50 101)
     -- SEQ before WL1: UNA moves alone
-    ∷ (side 100 200 9 3 50 60, seg 49 150 7, side 150 200 9 3 50 60)
+    ∷ (side 100 200 9 3 50 60, fields 49 150 7, side 150 200 9 3 50 60)
     -- WL1 2^31 - 1 before SEQ, then 2^31
-    ∷ (side 100 200 9 3 50 60, seg 2147483697 150 7, side 150 200 56 3 2147483697 150)
-    ∷ (side 100 200 9 3 50 60, seg 2147483698 150 7, side 150 200 9 3 50 60)
+    ∷ (side 100 200 9 3 50 60, fields 2147483697 150 7, side 150 200 56 3 2147483697 150)
+    ∷ (side 100 200 9 3 50 60, fields 2147483698 150 7, side 150 200 9 3 50 60)
     -- WL1 equal to SEQ: WL2 2^31 - 1 before ACK, then 2^31
-    ∷ (side 100 200 9 3 50 2147483799, seg 50 150 7, side 150 200 56 3 50 150)
-    ∷ (side 100 200 9 3 50 2147483798, seg 50 150 7, side 150 200 9 3 50 2147483798)
+    ∷ (side 100 200 9 3 50 2147483799, fields 50 150 7, side 150 200 56 3 50 150)
+    ∷ (side 100 200 9 3 50 2147483798, fields 50 150 7, side 150 200 9 3 50 2147483798)
     -- past 2^32: SEQ, then ACK
-    ∷ (side 100 200 9 3 4294967295 60, seg 0 150 7, side 150 200 56 3 0 150)
-    ∷ (side 100 200 9 3 0 60, seg 4294967295 150 7, side 150 200 9 3 0 60)
-    ∷ (side 4294967290 10 9 3 50 4294967295, seg 50 5 7, side 5 10 56 3 50 5)
-    ∷ (side 4294967290 10 9 3 50 5, seg 50 4294967295 7, side 4294967295 10 9 3 50 5)
+    ∷ (side 100 200 9 3 4294967295 60, fields 0 150 7, side 150 200 56 3 0 150)
+    ∷ (side 100 200 9 3 0 60, fields 4294967295 150 7, side 150 200 9 3 0 60)
+    ∷ (side 4294967290 10 9 3 50 4294967295, fields 50 5 7, side 5 10 56 3 50 5)
+    ∷ (side 4294967290 10 9 3 50 5, fields 50 4294967295 7, side 4294967295 10 9 3 50 5)
     ∷ []
 
 -- a send side, a count of octets, and the answer
@@ -172,5 +172,5 @@ pub vectors : (map (λ c. c .0) openings ≡ map (λ c. c .1) openings)
     × (map (λ c. taken (c .0) (c .1)) takes ≡ map (λ c. c .2) takes)
     × (map (λ c. sent (c .0) (c .1)) sents ≡ map (λ c. c .2) sents)
     × (map (λ c. isListed (c .0) (c .1)) blocks ≡ map (λ c. c .2) blocks)
-unfolding openings unsents news takes sents blocks side seg answer opened isNew acknowledged isCurrent isLater updatesWindow windowed taken exceedsWindow sent isListed offsetOf distanceOf
+unfolding openings unsents news takes sents blocks side fields answer opened isNew acknowledged isCurrent isLater updatesWindow windowed taken exceedsWindow sent isListed offsetOf distanceOf
 vectors = (refl, refl, refl, refl, refl, refl)

@@ -20,7 +20,7 @@ pub struct Send {
 }
 
 // RFC 9293's SEG.SEQ, SEG.ACK and SEG.WND: what a segment tells the send side.
-pub struct Seg {
+pub struct AckFields {
     pub seq: Seq,
     pub ack: Seq,
     pub window: u16,
@@ -53,7 +53,7 @@ impl SentOutcome {
 
 impl Send {
     // A send side at its opening by the peer's SYN, which has the ACK flag or not.
-    pub fn new(iss: Seq, shift: u32, syn: Seg, flag: bool) -> Send
+    pub fn new(iss: Seq, shift: u32, syn: AckFields, flag: bool) -> Send
         ensures { λ r. ⌜ r ≡ opened (iss .0) shift syn flag ⌝ }
     {
         let nxt = iss.moved(1);
@@ -100,14 +100,14 @@ impl Send {
     }
 
     // The send side after a segment is taken.
-    pub fn take(self, seg: Seg) -> Send
+    pub fn take(self, fields: AckFields) -> Send
         requires { ⌜ Sound self ⌝ }
-        ensures taken { λ r. ⌜ r ≡ taken self seg ⌝ }
+        ensures taken { λ r. ⌜ r ≡ taken self fields ⌝ }
         ensures sound { λ r. ⌜ Sound r ⌝ }
     {
-        let next = self.acknowledged(seg.ack);
-        if self.updates_window(seg) {
-            next.windowed(seg)
+        let next = self.acknowledged(fields.ack);
+        if self.updates_window(fields) {
+            next.windowed(fields)
         } else {
             next
         }
@@ -177,35 +177,35 @@ impl Send {
     }
 
     // Whether the segment comes after the one that last set the window.
-    fn is_later(self, seg: Seg) -> bool
-        ensures { λ r. ⌜ r ≡ isLater self seg ⌝ }
+    fn is_later(self, fields: AckFields) -> bool
+        ensures { λ r. ⌜ r ≡ isLater self fields ⌝ }
     {
-        if self.wl1.before(seg.seq) {
+        if self.wl1.before(fields.seq) {
             return true;
         }
-        if self.wl1.0 != seg.seq.0 {
+        if self.wl1.0 != fields.seq.0 {
             return false;
         }
-        self.wl2.at_or_before(seg.ack)
+        self.wl2.at_or_before(fields.ack)
     }
 
-    fn updates_window(self, seg: Seg) -> bool
-        ensures { λ r. ⌜ r ≡ updatesWindow self seg ⌝ }
+    fn updates_window(self, fields: AckFields) -> bool
+        ensures { λ r. ⌜ r ≡ updatesWindow self fields ⌝ }
     {
-        if self.is_current(seg.ack) {
-            return self.is_later(seg);
+        if self.is_current(fields.ack) {
+            return self.is_later(fields);
         }
         false
     }
 
     // The segment's window, and its SEQ and ACK.
-    fn windowed(self, seg: Seg) -> Send
+    fn windowed(self, fields: AckFields) -> Send
         requires { ⌜ self .shift ≤ 14 ⌝ }
-        ensures { λ r. ⌜ r ≡ windowed self seg ⌝ }
+        ensures { λ r. ⌜ r ≡ windowed self fields ⌝ }
     {
-        let window = (seg.window as u32) << self.shift;
-        let wl1 = seg.seq;
-        let wl2 = seg.ack;
+        let window = (fields.window as u32) << self.shift;
+        let wl1 = fields.seq;
+        let wl2 = fields.ack;
         Send {
             window,
             wl1,

@@ -14,8 +14,8 @@ cast-new c = search needs
 new-requires : tie.Need-new-requires
 new-requires c κs = search needs
 
-seg-of-requires : tie.Need-seg-of-requires
-seg-of-requires c κs = search needs
+ack-fields-of-requires : tie.Need-ack-fields-of-requires
+ack-fields-of-requires c κs = search needs
 
 cast-new-2 : tie.Need-cast-new-2
 cast-new-2 c = search needs
@@ -41,13 +41,13 @@ returns c =
     let timestamping = c .before .before in
     let tsval = timestamping .before in
     let send = tsval .before in
-    let seg = send .before .before in
-    let receive = seg .before in
+    let fields = send .before .before in
+    let receive = fields .before in
     rw (
       receive .new .ensures,
       receive .before .before .moved .ensures,
       send .new2 .ensures,
-      seg .seg-of .ensures,
+      fields .ack-fields-of .ensures,
       timestamping .new3 .ensures,
       tsval .tsval-of .ensures,
       c .before .mss .ensures,
@@ -61,7 +61,7 @@ record-with-spec =
     moved-requires
     cast-new
     new-requires
-    seg-of-requires
+    ack-fields-of-requires
     cast-new-2
     new-requires-2
     tsval-of-requires

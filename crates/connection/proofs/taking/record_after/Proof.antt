@@ -8,8 +8,8 @@ use Rattle.connection.proofs.taking.record_after.Tie as tie
 take-requires : tie.Need-take-requires
 take-requires c κs = search needs
 
-seg-of-requires : tie.Need-seg-of-requires
-seg-of-requires c κs = search needs
+ack-fields-of-requires : tie.Need-ack-fields-of-requires
+ack-fields-of-requires c κs = search needs
 
 take-requires-2 : tie.Need-take-requires-2
 take-requires-2 c κs = search needs
@@ -34,7 +34,7 @@ returns c =
       c .before .take3 .ensures,
       tsval .tsval-of .ensures,
       send .take2 .ensures .0,
-      send .before .seg-of .ensures,
+      send .before .ack-fields-of .ensures,
       receive .take .ensures .0,
     )
 
@@ -43,7 +43,7 @@ record-after-spec =
     tie.close
     (tie.spec
     take-requires
-    seg-of-requires
+    ack-fields-of-requires
     take-requires-2
     tsval-of-requires
     take-requires-3

@@ -22,7 +22,7 @@ unfolding taken
 returns c =
     let tested = c .before in
     let start = tested .before .before .before in
-    let e : c .windowed .result ≡ taken (start .args .self) (start .args .seg) =
+    let e : c .windowed .result ≡ taken (start .args .self) (start .args .fields) =
     rw (
       c .windowed .ensures,
       tested .before .before .acknowledged .ensures,
@@ -36,7 +36,7 @@ unfolding taken
 returns-2 c =
     let next = c .before .before in
     let start = next .before in
-    let e : next .acknowledged .result ≡ taken (start .args .self) (start .args .seg) =
+    let e : next .acknowledged .result ≡ taken (start .args .self) (start .args .fields) =
     rw (next .acknowledged .ensures, sym (c .before .updates-window .ensures) ∙ c .if1 .left)
     in
     (e, rw e (taken-sound _ _ (start .pre)))

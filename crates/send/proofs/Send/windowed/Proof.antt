@@ -15,7 +15,7 @@ returns : tie.Need-returns
 unfolding windowed
 returns c =
     let a = c .before .before .before .before .before .before .args in
-    rw (shl-exact {a = a .seg .window} 16 (a .self .shift) 32 (search needs) (search needs))
+    rw (shl-exact {a = a .fields .window} 16 (a .self .shift) 32 (search needs) (search needs))
 
 pub windowed-spec : {M : Type 1} → statement M
 windowed-spec = tie.close (tie.spec cast-window shl-window returns)
