@@ -1,5 +1,5 @@
 /*
- * An example of a gateway that calls Noppalerk: it reads a capture, hands each TCP segment to the library, and prints the
+ * An example of a gateway that calls Noppalerk: it reads a capture, passes each TCP segment to the library, and prints the
  * refused ones, counts, flows and the RTO.
  *
  * Status 0 where the whole capture was read, 1 where it was not or the output failed, 2 for bad usage.

@@ -45,7 +45,7 @@ uint32_t noppalerk_refusal(const uint8_t *segment, size_t length);
  * 2^31 - 1 that equals `to - from` modulo 2^32.
  *
  * Above 0, `from` is before `to`; at least 0, it is at or before it. At 2^31 apart the distance is -2^31 in both directions,
- * and neither is before the other. -2^31 has no counterpart in int32_t: do not hand it to abs() or negate it.
+ * and neither is before the other. -2^31 has no counterpart in int32_t: do not pass it to abs() or negate it.
  */
 int32_t noppalerk_distance(uint32_t from, uint32_t to);
 

@@ -10,7 +10,7 @@ import (
 	"noppalerk/bench/fail"
 )
 
-// Lines gives the lines that a program prints, which is handed an input.
+// Lines gives the lines that a program prints on an input.
 func Lines(input []byte, program string, words ...string) []string {
 	command := exec.Command(program, words...)
 	command.Stdin = bytes.NewReader(input)

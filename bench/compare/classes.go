@@ -30,6 +30,6 @@ var scapyClasses = []class{
 	{4, "an option without length octet", breaksOffBy(noLengthOctet), "scapy takes it as an option without octets"},
 	{4, "an option with a length below 2", breaksOffBy(lengthUnderTwo), "scapy takes the length as 2 and reads on"},
 	{4, "an option that runs past the header", breaksOffBy(lengthPastHeader), "scapy cuts it at the header's end"},
-	{5, wrongLength, hasWrongLength, "scapy hands over the octets unread, or an odd number of SACK edges"},
+	{5, wrongLength, hasWrongLength, "scapy gives the octets unread, or an odd number of SACK edges"},
 	{6, twice, hasKindTwice, "scapy lists every option, as often as it comes"},
 }

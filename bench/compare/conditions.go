@@ -1,4 +1,4 @@
-// What a segment has that readers treat differently, told from its octets alone.
+// What a segment has that readers treat differently, by its octets alone.
 
 package main
 

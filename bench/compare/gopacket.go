@@ -67,7 +67,7 @@ func flagsOfLayer(tcp layers.TCP) (flags byte) {
 	return flags
 }
 
-// addOption: gopacket hands over an option's octets unread; those too short for their kind are left out.
+// addOption: gopacket gives an option's octets unread; those too short for their kind are left out.
 func addOption(fields *segment.Fields, option layers.TCPOption) {
 	data := option.OptionData
 	switch {

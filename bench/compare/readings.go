@@ -20,7 +20,7 @@ func readByLibrary(replay string, segments [][]byte) []string {
 	return linesFor(segments, calls.Bytes(), replay)
 }
 
-// readByScapy hands the segments to the script, each with a length of four octets before it.
+// readByScapy passes the segments to the script, each with a length of four octets before it.
 func readByScapy(script string, segments [][]byte) []string {
 	var lent bytes.Buffer
 	for _, octets := range segments {

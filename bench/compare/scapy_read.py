@@ -1,6 +1,6 @@
 """Reads segments from standard input, each a length of four octets and its octets; writes for each what scapy reads of it.
 
-A line has the form of the replay program's (docs/REPLAY.md); `?` stands for an option that scapy hands over unread, and
+A line has the form of the replay program's (docs/REPLAY.md); `?` stands for an option that scapy gives unread, and
 `unread` for a segment at which scapy fails.
 """
 

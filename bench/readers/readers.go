@@ -21,7 +21,7 @@ const (
 	LwIP           Reader = C.LOOPS_LWIP
 )
 
-// The set is handed over by value, so that C sees one pointer to plain octets.
+// The set is passed by value, so that C sees one pointer to plain octets.
 func lent(set segment.Set) C.struct_loops_set {
 	return C.struct_loops_set{
 		first:  (*C.uint8_t)(unsafe.Pointer(&set.Octets[0])),

@@ -1,4 +1,4 @@
-// One stream program at work: it is handed a stream, takes orders over a pipe and answers each.
+// One stream program at work: it is given a stream, takes orders over a pipe and answers each.
 
 package main
 
@@ -23,7 +23,7 @@ type program struct {
 // What a program answers, before it ends, to a stream that breaks the protocol.
 const refusedStream = "bad"
 
-// startProgram starts it and hands it the stream.
+// startProgram starts it and gives it the stream.
 func startProgram(words []string, s stream) *program {
 	theirInput, input := pipe()
 	output, theirOutput := pipe()

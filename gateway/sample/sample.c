@@ -3,7 +3,7 @@
  * without a TCP segment, and refused segments.
  *
  * E2 is not among them: an IPv4 packet holds at most 65,515 octets of segment and an IPv6 packet without the jumbo option at
- * most 65,535, so no packet whose segment the example hands on can show it.
+ * most 65,535, so no packet whose segment the example passes on can show it.
  */
 #include <stdbool.h>
 #include <stdint.h>
@@ -15,7 +15,7 @@ enum { STATION = 10, OTHER_STATION = 11, CORRELATOR = 20 };
 enum { STATION_PORT = 40000, CORRELATOR_PORT = 7000 };
 enum { PAYLOAD = 32 };
 
-/* 81 octets after it, the sequence number comes round. */
+/* 81 octets after it, the sequence number wraps. */
 static const uint32_t STATION_ISS = 0xffffffaf;
 static const uint32_t CORRELATOR_ISS = 5000;
 
@@ -112,7 +112,7 @@ static void add_handshake(struct sample *sample)
     add(sample, to_correlator(from_station(ACK, STATION_ISS + 1, TIMESTAMPS)));
 }
 
-/* The fifth part is missing until the receiver has asked for it; the third one is where the sequence number comes round. */
+/* The fifth part is missing until the receiver has asked for it; the third one is where the sequence number wraps. */
 static void add_data(struct sample *sample)
 {
     uint32_t have = STATION_ISS + 1 + 4 * PAYLOAD;

@@ -1,4 +1,4 @@
-// Calls that hand in a segment: 1 read, 4 open, 5 arrive. All of them read it at one place, so that the compiler puts the reading, and
+// Calls that bring a segment: 1 read, 4 open, 5 arrive. All of them read it at one place, so that the compiler puts the reading, and
 // what is done with it, into the loop.
 ghost use Prim.Native.Nat.{_≤_};
 ghost use lib.ListN.{length};

@@ -1,4 +1,4 @@
--- The number that is handed on is that of the reading.
+-- The number that is returned is that of the reading.
 -- Assumes nothing.
 use mathlib.Core.Path.{ap, _∙_}
 use borrow.Author.Needs.{needs}

@@ -1,4 +1,4 @@
--- Every turn hands on a sound record; the body keeps its length.
+-- Every turn returns a sound record; the body keeps its length.
 -- Assumes nothing.
 use mathlib.Core.Path.{_≡_}
 use lib.ListN.{length}

@@ -1,4 +1,4 @@
--- Every acknowledgment hands on a sound record; the octets keep their length.
+-- Every acknowledgment returns a sound record; the octets keep their length.
 -- Assumes nothing.
 use mathlib.Core.Path.{_≡_}
 use Prim.Native.Nat.{_-_}

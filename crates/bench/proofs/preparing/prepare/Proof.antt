@@ -1,4 +1,4 @@
--- Every prepared call hands on a sound record.
+-- Every prepared call returns a sound record.
 -- Assumes nothing.
 use Prim.Native.Nat.{_-_}
 use Rattle.connection.specs.Record.{Sound}

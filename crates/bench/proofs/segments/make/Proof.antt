@@ -1,4 +1,4 @@
--- Every call hands on a sound record.
+-- Every call returns a sound record.
 -- Assumes nothing.
 use Prim.Native.Nat.{_-_}
 use Rattle.connection.specs.Record.{Sound}
