@@ -1,18 +1,29 @@
--- A sample above the limit is refused by its number alone, and leaves the timer; any other moves it. Assumes nothing.
-use Prim.Native.Nat.{ℕ, _≤_, _<_}
+-- A sample that E14 refuses is refused by its number alone, and leaves the timer; any other moves it. Assumes nothing.
+use Prim.Native.Nat.{ℕ, _*_, _≤_}
+use mathlib.Core.Bool.{true, false}
 use mathlib.Core.Option.{none}
-use mathlib.Core.Path.{_≡_}
-use borrow.Author.Tests.{le-leb, lt-leb}
+use mathlib.Core.Path.{_≡_, refl}
+use native.Mathlib.Omega.{arith}
+use borrow.Author.Tests.{leb-true}
 use Rattle.rto.specs.declared.Timer.{Timer}
-use Rattle.rto.specs.Timer.{answered, sampledBy}
+use Rattle.rto.specs.Timer.{answered, isAccepted, sampledBy}
 use Rattle.rto.specs.Calls.{called, sample}
+use Rattle.rto.specs.Exact.{withinLimit}
+
+-- the timer and the exact value leave out the same samples
+pub tests-agree : (r : ℕ) → isAccepted r ≡ withinLimit r
+tests-agree r = refl
+
+-- what an accepted sample makes of S is within the limit that the gateway's side names
+pub accepted-most : (r : ℕ) → isAccepted r ≡ true → 256 * r ≤ 153600000
+accepted-most r accepted = omega (arith, leb-true)
 
 module _ (t : Timer) (r : ℕ) where
-  pub refused-alone : 600000 < r → answered t r ≡ record { number = 14; timer = none }
-  refused-alone large = simp (lt-leb r 600000 large)
+  pub refused-alone : isAccepted r ≡ false → answered t r ≡ record { number = 14; timer = none }
+  refused-alone refused = simp refused
 
-  pub refusal-leaves : 600000 < r → called t (sample r) ≡ t
-  refusal-leaves large = simp (lt-leb r 600000 large)
+  pub refusal-leaves : isAccepted r ≡ false → called t (sample r) ≡ t
+  refusal-leaves refused = simp refused
 
-  pub accepted-moves : r ≤ 600000 → called t (sample r) ≡ sampledBy t r
-  accepted-moves small = simp (le-leb r 600000 small)
+  pub accepted-moves : isAccepted r ≡ true → called t (sample r) ≡ sampledBy t r
+  accepted-moves accepted = simp accepted

@@ -1,5 +1,5 @@
 -- The retransmission timer (document 01, "The timer"). S and V are in 1/256 ms, a sample R and the timer's value in ms.
-use mathlib.Core.Bool.{true, false, cond, _&&_}
+use mathlib.Core.Bool.{Bool, true, false, cond, _&&_}
 use mathlib.Core.Option.{Option, none, some}
 use mathlib.Core.Path.{_≡_}
 use Prim.Native.Nat.{ℕ, _+_, _-_, _*_, _/_, _≤_, min, max}
@@ -65,15 +65,18 @@ later s v r = estimatedBy (nextSrtt s r) (nextRttvar s v r)
 abbrev pub sampledBy : Timer → ℕ → Timer
 sampledBy t r = cond (t .sampled) (later (t .srtt) (t .rttvar) r) (first r)
 
+-- E14: a sample above 600,000 ms is refused
+abbrev pub isAccepted : ℕ → Bool
+isAccepted r = leb r 600000
+
 -- a sample's answer in document 01's terms: 0 and the timer after it, or the refusal's number alone
 pub record Answer : Type 0 where
   pub number : ℕ
   pub timer : Option Timer
 
--- E14: the sample is above 600,000 ms
 abbrev pub answered : Timer → ℕ → Answer
 answered t r =
-    cond (leb r 600000) (record { number = 0; timer = some (sampledBy t r) }) (record { number = 14; timer = none })
+    cond (isAccepted r) (record { number = 0; timer = some (sampledBy t r) }) (record { number = 14; timer = none })
 
 -- the same of each case of the answer that the code gives
 abbrev pub shown : SampleAnswer → Answer
