@@ -1,11 +1,11 @@
 -- Demand 3 is met. Assumes nothing.
-use Prim.Native.Nat.{ℕ, _*_, _≤_, _<_}
+use Prim.Native.Nat.{ℕ, _*_, _<_}
 use mathlib.Core.Path.{_≡_, refl, sym, _∙_}
-use mathlib.Core.Bool.{Bool, true, false, cond, false≢true}
+use mathlib.Core.Bool.{Bool, true, false, false≢true}
 use mathlib.Core.List.{List, [], _∷_, _++_}
 use native.Mathlib.Omega.{arith}
 use Rattle.rto.specs.declared.Timer.{Timer}
-use Rattle.rto.specs.Timer.{apart, first, isAccepted, later, limited, newTimer, sampledBy, timeoutOf, wholeMs, withMargin}
+use Rattle.rto.specs.Timer.{apart, isAccepted, limited, newTimer, sampledBy, wholeMs, withMargin}
 use Rattle.rto.specs.Calls.{Call, sample, expiry, called, run}
 use Rattle.rto.specs.Fractions.{Fraction, Is, whole}
 use Rattle.rto.specs.Exact.{Exact, unset, set, exactCalled, exactRun, exactSampled, withinLimit}
@@ -16,6 +16,7 @@ use Rattle.rto.proofs.Exact.{late-is, rttvar-is, srtt-is, value-is}
 use Rattle.rto.proofs.Near.{Near, near-next, near-on-time}
 use Rattle.rto.proofs.Calls.{run-append}
 use Rattle.rto.proofs.Refusal.{accepted-moves, refusal-leaves, tests-agree}
+use Rattle.rto.proofs.Sampling.{Fresh, fresh-sampled}
 
 -- How far rounding leads S and V away, by the weights 1/8 and 1/4. The margin is slack-s + 4 slack-v.
 abbrev slack-s : ℕ
@@ -85,17 +86,6 @@ tracks-called t (set s v) expiry h = h
 tracks-run : (cs : List Call) (t : Timer) (e : Exact) → Tracks t e → Tracks (run t cs) (exactRun e cs)
 tracks-run [] t e h = h
 tracks-run (c ∷ cs) t e h = tracks-run cs (called t c) (exactCalled e c) (tracks-called t e c h)
-
--- S and V are set, and the present value is the one worked out of them: so after a sample, and until an expiry.
-abbrev Fresh : Timer → Type 0
-Fresh t = (t .sampled ≡ true) × (t .timeout ≡ timeoutOf (t .srtt) (t .rttvar))
-
-fresh-sampled : (t : Timer) (r : ℕ) → Fresh (sampledBy t r)
-fresh-sampled t r = go (t .sampled)
-  where
-    go : (b : Bool) → Fresh (cond b (later (t .srtt) (t .rttvar) r) (first r))
-    go true = (refl, refl)
-    go false = (refl, refl)
 
 run-refused : (cs : List Call) (t : Timer) → RefusedSamples cs → run t cs ≡ t
 run-refused [] t refused = refl

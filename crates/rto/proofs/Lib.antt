@@ -4,5 +4,8 @@ pub mod Fractions
 pub mod Exact
 pub mod Calls
 pub mod Refusal
+pub mod Value
+pub mod Sampling
+pub mod Doubling
 pub mod Sound
 pub mod Bound

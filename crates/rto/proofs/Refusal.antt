@@ -1,7 +1,7 @@
 -- A sample that E14 refuses is refused by its number alone, and leaves the timer; any other moves it. Assumes nothing.
 use Prim.Native.Nat.{ℕ, _*_, _≤_}
 use mathlib.Core.Bool.{true, false}
-use mathlib.Core.Option.{none}
+use mathlib.Core.Option.{none, some}
 use mathlib.Core.Path.{_≡_, refl}
 use native.Mathlib.Omega.{arith}
 use borrow.Author.Tests.{leb-true}
@@ -24,6 +24,9 @@ module _ (t : Timer) (r : ℕ) where
 
   pub refusal-leaves : isAccepted r ≡ false → called t (sample r) ≡ t
   refusal-leaves refused = simp refused
+
+  pub accepted-answer : isAccepted r ≡ true → answered t r ≡ record { number = 0; timer = some (sampledBy t r) }
+  accepted-answer accepted = simp accepted
 
   pub accepted-moves : isAccepted r ≡ true → called t (sample r) ≡ sampledBy t r
   accepted-moves accepted = simp accepted

@@ -3,7 +3,6 @@ use mathlib.Core.Bool.{Bool, true, false, cond, _&&_}
 use mathlib.Core.Option.{Option, none, some}
 use mathlib.Core.Path.{_≡_}
 use Prim.Native.Nat.{ℕ, _+_, _-_, _*_, _/_, _≤_, min, max}
-use native.Mathlib.Omega.{arith}
 use lib.Dec.{leb}
 use Rattle.rto.specs.declared.Timer.{Timer}
 use Rattle.rto.specs.declared.SampleAnswer.{SampleAnswer}
@@ -35,13 +34,6 @@ withMargin s v = s + max 256 (4 * v) + 47
 -- the least whole ms not below n/256
 abbrev pub wholeMs : ℕ → ℕ
 wholeMs n = (n + 255) / 256
-
-pub record LeastNotBelow (n m : ℕ) : Type 0 where
-  pub not-below : n ≤ 256 * m
-  pub least : (k : ℕ) → n ≤ 256 * k → m ≤ k
-
-pub whole-least : (n : ℕ) → LeastNotBelow n (wholeMs n)
-whole-least n = record { not-below = omega arith; least = λ k h. omega arith }
 
 -- raised to 1,000 ms or cut to 60,000 ms
 abbrev pub limited : ℕ → ℕ
