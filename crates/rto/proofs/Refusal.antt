@@ -1,10 +1,11 @@
 -- A sample that E14 refuses is refused by its number alone, and leaves the timer; any other moves it. Assumes nothing.
 use Prim.Native.Nat.{ℕ, _*_, _≤_}
 use mathlib.Core.Bool.{true, false}
+use mathlib.Core.Logic.{_↔_}
 use mathlib.Core.Option.{none, some}
 use mathlib.Core.Path.{_≡_, refl}
 use native.Mathlib.Omega.{arith}
-use borrow.Author.Tests.{leb-true}
+use borrow.Author.Tests.{le-leb, leb-true}
 use Rattle.rto.specs.declared.Timer.{Timer}
 use Rattle.rto.specs.Timer.{answered, isAccepted, sampledBy}
 use Rattle.rto.specs.Calls.{called, sample}
@@ -14,9 +15,9 @@ use Rattle.rto.specs.Exact.{withinLimit}
 pub tests-agree : (r : ℕ) → isAccepted r ≡ withinLimit r
 tests-agree r = refl
 
--- what an accepted sample makes of S is within the limit that the gateway's side names
-pub accepted-most : (r : ℕ) → isAccepted r ≡ true → 256 * r ≤ 153600000
-accepted-most r accepted = omega (arith, leb-true)
+-- accepted exactly if 256R is within 153,600,000, the limit of the gateway's side
+pub accepted-exactly : (r : ℕ) → isAccepted r ≡ true ↔ 256 * r ≤ 153600000
+accepted-exactly r = (λ accepted. omega (arith, leb-true), λ most. le-leb r _ (omega arith))
 
 module _ (t : Timer) (r : ℕ) where
   pub refused-alone : isAccepted r ≡ false → answered t r ≡ record { number = 14; timer = none }

@@ -35,18 +35,16 @@ module _ (t : Timer) (r : ℕ) (accepted : isAccepted r ≡ true) where
   first-sample unset = rw (accepted-moves t r accepted, unset) (refl, refl)
 
   -- later, with the old S in both: V = floor((3V + |S - 256R|)/4), S = floor((7S + 256R)/8)
-  pub later-rttvar : t .sampled ≡ true
+  pub later-sample : t .sampled ≡ true
       → Floor (3 * t .rttvar + ((t .srtt - 256 * r) + (256 * r - t .srtt))) 4 (called t (sample r) .rttvar)
-  later-rttvar set = rw (accepted-moves t r accepted, set) (record { low = omega arith; high = omega arith })
-
-  pub later-srtt : t .sampled ≡ true → Floor (7 * t .srtt + 256 * r) 8 (called t (sample r) .srtt)
-  later-srtt set = rw (accepted-moves t r accepted, set) (record { low = omega arith; high = omega arith })
+      × Floor (7 * t .srtt + 256 * r) 8 (called t (sample r) .srtt)
+  later-sample set = rw (accepted-moves t r accepted, set) (omega arith, omega arith)
 
   -- S and V are set
   pub sample-sets : called t (sample r) .sampled ≡ true
   sample-sets = rw (accepted-moves t r accepted) (fresh-sampled t r .0)
 
   -- timer = the least whole ms not below (S + max(256, 4V) + 47)/256, then raised to 1,000 or cut to 60,000
-  pub sample-times : (m : ℕ) → LeastNotBelow (called t (sample r) .srtt + max 256 (4 * called t (sample r) .rttvar) + 47) m
+  pub sample-value : (m : ℕ) → LeastNotBelow (called t (sample r) .srtt + max 256 (4 * called t (sample r) .rttvar) + 47) m
       → called t (sample r) .timeout ≡ min 60000 (max 1000 m)
-  sample-times = rw (accepted-moves t r accepted) (λ m h. fresh-sampled t r .1 ∙ value-least (sampledBy t r .srtt) (sampledBy t r .rttvar) m h)
+  sample-value = rw (accepted-moves t r accepted) (λ m h. fresh-sampled t r .1 ∙ value-least (sampledBy t r .srtt) (sampledBy t r .rttvar) m h)

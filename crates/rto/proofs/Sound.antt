@@ -8,7 +8,7 @@ use Rattle.rto.specs.declared.Timer.{Timer}
 use Rattle.rto.specs.Timer.{Sound, apart, estimatedBy, first, isAccepted, later, newTimer, nextRttvar, nextSrtt, sampledBy}
 use Rattle.rto.specs.Calls.{Call, sample, expiry, called, run}
 use Rattle.rto.proofs.Rounding.{mean-most}
-use Rattle.rto.proofs.Refusal.{accepted-most, accepted-moves, refusal-leaves}
+use Rattle.rto.proofs.Refusal.{accepted-exactly, accepted-moves, refusal-leaves}
 
 pub sound-new : Sound newTimer
 sound-new =
@@ -44,7 +44,7 @@ pub sound-called : (t : Timer) (c : Call) → Sound t → Sound (called t c)
 sound-called t (sample r) h = pick (isAccepted r) refl
   where
     pick : (b : Bool) → isAccepted r ≡ b → Sound (called t (sample r))
-    pick true accepted = rw (accepted-moves t r accepted) (sound-sampled t r h (accepted-most r accepted))
+    pick true accepted = rw (accepted-moves t r accepted) (sound-sampled t r h (accepted-exactly r .0 accepted))
     pick false refused = rw (refusal-leaves t r refused) h
 sound-called t expiry h =
     record {

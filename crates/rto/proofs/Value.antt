@@ -1,8 +1,8 @@
 -- The timer's value from S and V (document 01, "The timer" and "The gateway's side"). Assumes nothing.
 use Prim.Native.Nat.{ℕ, _+_, _*_, _/_, _≤_, _<_, max, min}
-use mathlib.Core.Bool.{and-false}
+use mathlib.Core.Bool.{and-false, cond, _&&_}
 use mathlib.Core.Logic.{_⊎_, inl, inr}
-use mathlib.Core.Path.{_≡_}
+use mathlib.Core.Path.{_≡_, _∙_}
 use native.Mathlib.Decide.{decLe}
 use native.Mathlib.Omega.{arith}
 use lib.Dec.{leb}
@@ -26,15 +26,17 @@ module _ (s v : ℕ) where
 
   -- the gateway's side: S or V above 153,600,000 gives 0
   pub milliseconds-within : s ≤ 153600000 → v ≤ 153600000 → millisecondsOf s v ≡ timeoutOf s v
-  milliseconds-within hs hv = simp (le-leb s 153600000 hs, le-leb v 153600000 hv)
+  milliseconds-within hs hv = λ i. cond (le-leb s 153600000 hs i && le-leb v 153600000 hv i) (timeoutOf s v) 0
 
   pub milliseconds-above : (153600000 < s) ⊎ (153600000 < v) → millisecondsOf s v ≡ 0
-  milliseconds-above (inl h) = simp (lt-leb s 153600000 h)
-  milliseconds-above (inr h) = simp (lt-leb v 153600000 h, and-false (leb s 153600000))
+  milliseconds-above (inl h) = λ i. cond (lt-leb s 153600000 h i && leb v 153600000) (timeoutOf s v) 0
+  milliseconds-above (inr h) =
+      (λ i. cond (leb s 153600000 && lt-leb v 153600000 h i) (timeoutOf s v) 0)
+      ∙ (λ i. cond (and-false (leb s 153600000) i) (timeoutOf s v) 0)
 
   -- and nothing else does
   pub milliseconds-zero : millisecondsOf s v ≡ 0 → (153600000 < s) ⊎ (153600000 < v)
-  milliseconds-zero none = pick (decLe s 153600000) (decLe v 153600000)
+  milliseconds-zero e = pick (decLe s 153600000) (decLe v 153600000)
     where
       pick : Dec (s ≤ 153600000) → Dec (v ≤ 153600000) → (153600000 < s) ⊎ (153600000 < v)
       pick (no large) d = inl (omega arith)

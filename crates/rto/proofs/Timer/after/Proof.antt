@@ -2,12 +2,12 @@
 use Prim.Native.Nat.{_*_, _≤_}
 use native.Mathlib.Omega.{arith}
 use borrow.Author.Needs.{needs}
-use Rattle.rto.proofs.Refusal.{accepted-most}
+use Rattle.rto.proofs.Refusal.{accepted-exactly}
 use Rattle.rto.proofs.Timer.after.Statement.{statement}
 use Rattle.rto.proofs.Timer.after.Tie as tie
 
 most : (c : tie.Start) → 256 * c .args .rtt ≤ 153600000
-most c = accepted-most (c .args .rtt) (c .pre)
+most c = accepted-exactly (c .args .rtt) .0 (c .pre)
 
 next-srtt-requires : tie.Need-next-srtt-requires
 next-srtt-requires c κs = omega (arith, most (c .before))
