@@ -1,22 +1,22 @@
 -- Demand 3 is met. Assumes nothing.
-use Prim.Native.Nat.{ℕ, _*_, _≤_, _<_}
+use Prim.Native.Nat.{ℕ, _*_, _<_}
 use mathlib.Core.Path.{_≡_, refl, sym, _∙_}
-use mathlib.Core.Bool.{Bool, true, false, cond, false≢true}
+use mathlib.Core.Bool.{Bool, true, false, false≢true}
 use mathlib.Core.List.{List, [], _∷_, _++_}
-use native.Mathlib.Decide.{decLe}
 use native.Mathlib.Omega.{arith}
-use borrow.Author.Tests.{le-leb, lt-leb}
 use Rattle.rto.specs.declared.Timer.{Timer}
-use Rattle.rto.specs.Timer.{apart, first, later, limited, newTimer, sampledBy, timeoutOf, wholeMs, withMargin}
+use Rattle.rto.specs.Timer.{apart, isAccepted, limited, newTimer, sampledBy, wholeMs, withMargin}
 use Rattle.rto.specs.Calls.{Call, sample, expiry, called, run}
 use Rattle.rto.specs.Fractions.{Fraction, Is, whole}
-use Rattle.rto.specs.Exact.{Exact, unset, set, exactCalled, exactRun, exactSampled}
+use Rattle.rto.specs.Exact.{Exact, unset, set, exactCalled, exactRun, exactSampled, withinLimit}
 use Rattle.rto.specs.Demand.{Demand3, OnTime, RefusedSamples}
 use Rattle.rto.proofs.Rounding.{mean-is}
 use Rattle.rto.proofs.Fractions.{at-most, below, whole-is}
 use Rattle.rto.proofs.Exact.{late-is, rttvar-is, srtt-is, value-is}
 use Rattle.rto.proofs.Near.{Near, near-next, near-on-time}
-use Rattle.rto.proofs.Refusal.{accepted-moves, refusal-leaves}
+use Rattle.rto.proofs.Calls.{run-append}
+use Rattle.rto.proofs.Refusal.{accepted-moves, refusal-leaves, tests-agree}
+use Rattle.rto.proofs.Sampling.{Fresh, fresh-sampled}
 
 -- How far rounding leads S and V away, by the weights 1/8 and 1/4. The margin is slack-s + 4 slack-v.
 abbrev slack-s : ℕ
@@ -75,11 +75,11 @@ tracks-sampled t (set s v) r h =
     )
 
 tracks-called : (t : Timer) (e : Exact) (c : Call) → Tracks t e → Tracks (called t c) (exactCalled e c)
-tracks-called t e (sample r) h = pick (decLe r 600000)
+tracks-called t e (sample r) h = pick (isAccepted r) refl
   where
-    pick : Dec (r ≤ 600000) → Tracks (called t (sample r)) (exactCalled e (sample r))
-    pick (yes small) = rw (le-leb r 600000 small) (tracks-sampled t e r h)
-    pick (no large) = rw (lt-leb r 600000 (omega arith)) h
+    pick : (b : Bool) → isAccepted r ≡ b → Tracks (called t (sample r)) (exactCalled e (sample r))
+    pick true accepted = rw (accepted-moves t r accepted, sym (tests-agree r) ∙ accepted) (tracks-sampled t e r h)
+    pick false refused = rw (refusal-leaves t r refused, sym (tests-agree r) ∙ refused) h
 tracks-called t unset expiry h = h
 tracks-called t (set s v) expiry h = h
 
@@ -87,28 +87,18 @@ tracks-run : (cs : List Call) (t : Timer) (e : Exact) → Tracks t e → Tracks 
 tracks-run [] t e h = h
 tracks-run (c ∷ cs) t e h = tracks-run cs (called t c) (exactCalled e c) (tracks-called t e c h)
 
--- S and V are set, and the present value is the one worked out of them: so after a sample, and until an expiry.
-abbrev Fresh : Timer → Type 0
-Fresh t = (t .sampled ≡ true) × (t .timeout ≡ timeoutOf (t .srtt) (t .rttvar))
-
-fresh-sampled : (t : Timer) (r : ℕ) → Fresh (sampledBy t r)
-fresh-sampled t r = go (t .sampled)
-  where
-    go : (b : Bool) → Fresh (cond b (later (t .srtt) (t .rttvar) r) (first r))
-    go true = (refl, refl)
-    go false = (refl, refl)
-
 run-refused : (cs : List Call) (t : Timer) → RefusedSamples cs → run t cs ≡ t
 run-refused [] t refused = refl
-run-refused (sample r ∷ cs) t refused = rw (refusal-leaves t r (refused .0)) (run-refused cs t (refused .1))
+run-refused (sample r ∷ cs) t refused = rw (refusal-leaves t r (tests-agree r ∙ refused .0)) (run-refused cs t (refused .1))
 run-refused (expiry ∷ cs) t refused = absurd refused
 
 fresh-run :
-    (before : List Call) (t : Timer) (r : ℕ) (after : List Call) → r ≤ 600000 → RefusedSamples after →
+    (before : List Call) (t : Timer) (r : ℕ) (after : List Call) → withinLimit r ≡ true → RefusedSamples after →
     Fresh (run t (before ++ (sample r ∷ after)))
-fresh-run [] t r after small last =
-    rw (run-refused after (called t (sample r)) last, accepted-moves t r small) (fresh-sampled t r)
-fresh-run (c ∷ cs) t r after small last = fresh-run cs (called t c) r after small last
+fresh-run before t r after within last =
+    let u = run t before in
+    rw (run-append t before (sample r ∷ after), run-refused after (called u (sample r)) last, accepted-moves u r (tests-agree r ∙ within))
+    (fresh-sampled u r)
 
 fresh-on-time : (t : Timer) (e : Exact) → Fresh t → Tracks t e → OnTime (t .timeout) e
 fresh-on-time t unset fresh h = absurd (false≢true (sym h ∙ fresh .0))
@@ -139,6 +129,6 @@ demand-3-worked =
       rtt = 1000;
       after = sample 600001 ∷ [];
       split = refl;
-      not-refused = omega arith;
-      last = (omega arith, tt);
+      not-refused = refl;
+      last = (refl, tt);
     })

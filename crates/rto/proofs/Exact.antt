@@ -1,15 +1,15 @@
 -- The exact S, V and value as whole numbers over one denominator; after n samples that are not refused, it is 8^(n-1).
 -- Assumes nothing.
-use Prim.Native.Nat.{ℕ, zero, suc, _+_, _-_, _*_, _≤_, _<_, min, max}
+use Prim.Native.Nat.{ℕ, zero, suc, _+_, _-_, _*_, _<_, min, max}
+use mathlib.Core.Bool.{Bool, true, false}
 use mathlib.Core.List.{List, [], _∷_}
-use native.Mathlib.Decide.{decLe}
+use mathlib.Core.Path.{_≡_, refl}
 use native.Mathlib.Nat.{add-assoc, add-zero, mul-add, pow-succ', zero-add}
 use native.Mathlib.Numerals.{add-one}
 use native.Mathlib.Omega.{arith}
-use borrow.Author.Tests.{le-leb, lt-leb}
 use Rattle.rto.specs.Calls.{Call, sample, expiry}
 use Rattle.rto.specs.Fractions.{Fraction, Is, between, divided, sum, times, whole}
-use Rattle.rto.specs.Exact.{AfterSamples, Exact, WholeOver, unset, set, accepted, counted, exactCalled, exactRttvar, exactRun, exactSampled, exactSrtt, exactValue}
+use Rattle.rto.specs.Exact.{AfterSamples, Exact, WholeOver, unset, set, acceptedCount, counted, exactCalled, exactRttvar, exactRun, exactSampled, exactSrtt, exactValue, withinLimit}
 use Rattle.rto.proofs.Fractions.{combined-is, divided-is, times-is, whole-is, widened}
 use Rattle.rto.proofs.Rounding.{mul-between, mul-max, mul-min}
 
@@ -55,16 +55,16 @@ sampled-over (suc n) (set s v) r h =
     rw (pow-succ' 8 n) (whole-over (srtt-is s-is v-is r), whole-over (rttvar-is s-is v-is r))
 
 called-over : (n : ℕ) (e : Exact) (c : Call) → AfterSamples n e → AfterSamples (n + counted c) (exactCalled e c)
-called-over n e (sample r) h = pick (decLe r 600000)
+called-over n e (sample r) h = pick (withinLimit r) refl
   where
-    pick : Dec (r ≤ 600000) → AfterSamples (n + counted (sample r)) (exactCalled e (sample r))
-    pick (yes small) = rw (le-leb r 600000 small, add-one) (sampled-over n e r h)
-    pick (no large) = rw (lt-leb r 600000 (omega arith), add-zero) h
+    pick : (b : Bool) → withinLimit r ≡ b → AfterSamples (n + counted (sample r)) (exactCalled e (sample r))
+    pick true accepted = rw (accepted, add-one) (sampled-over n e r h)
+    pick false refused = rw (refused, add-zero) h
 called-over n e expiry h = rw add-zero h
 
-run-over : (cs : List Call) (n : ℕ) (e : Exact) → AfterSamples n e → AfterSamples (n + accepted cs) (exactRun e cs)
+run-over : (cs : List Call) (n : ℕ) (e : Exact) → AfterSamples n e → AfterSamples (n + acceptedCount cs) (exactRun e cs)
 run-over [] n e h = rw add-zero h
 run-over (c ∷ cs) n e h = rw (← add-assoc) (run-over cs (n + counted c) (exactCalled e c) (called-over n e c h))
 
-pub after-samples : (calls : List Call) → AfterSamples (accepted calls) (exactRun unset calls)
+pub after-samples : (calls : List Call) → AfterSamples (acceptedCount calls) (exactRun unset calls)
 after-samples calls = rw zero-add at (run-over calls 0 unset tt)

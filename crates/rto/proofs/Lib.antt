@@ -2,6 +2,10 @@ pub mod Rounding
 pub mod Near
 pub mod Fractions
 pub mod Exact
+pub mod Calls
 pub mod Refusal
+pub mod Value
+pub mod Sampling
+pub mod Doubling
 pub mod Sound
 pub mod Bound

@@ -1,15 +1,14 @@
 -- Every timer that calls lead to from a new one is sound. Assumes nothing.
 use Prim.Native.Nat.{ℕ, _*_, _≤_}
-use mathlib.Core.Path.{refl, sym}
+use mathlib.Core.Path.{_≡_, refl, sym}
 use mathlib.Core.Bool.{Bool, true, false, cond, false≢true}
 use mathlib.Core.List.{List, [], _∷_}
-use native.Mathlib.Decide.{decLe}
 use native.Mathlib.Omega.{arith}
 use Rattle.rto.specs.declared.Timer.{Timer}
-use Rattle.rto.specs.Timer.{Sound, apart, estimatedBy, first, later, newTimer, nextRttvar, nextSrtt, sampledBy}
+use Rattle.rto.specs.Timer.{Sound, apart, estimatedBy, first, isAccepted, later, newTimer, nextRttvar, nextSrtt, sampledBy}
 use Rattle.rto.specs.Calls.{Call, sample, expiry, called, run}
 use Rattle.rto.proofs.Rounding.{mean-most}
-use Rattle.rto.proofs.Refusal.{accepted-moves, refusal-leaves}
+use Rattle.rto.proofs.Refusal.{accepted-exactly, accepted-moves, refusal-leaves}
 
 pub sound-new : Sound newTimer
 sound-new =
@@ -31,8 +30,8 @@ sound-estimated s v hs hv =
       unset = λ e. absurd (false≢true (sym e));
     }
 
-sound-sampled : (t : Timer) (r : ℕ) → Sound t → r ≤ 600000 → Sound (sampledBy t r)
-sound-sampled t r h small = go (t .sampled)
+sound-sampled : (t : Timer) (r : ℕ) → Sound t → 256 * r ≤ 153600000 → Sound (sampledBy t r)
+sound-sampled t r h most = go (t .sampled)
   where
     go : (b : Bool) → Sound (cond b (later (t .srtt) (t .rttvar) r) (first r))
     go true =
@@ -42,11 +41,11 @@ sound-sampled t r h small = go (t .sampled)
     go false = sound-estimated (256 * r) (128 * r) (omega arith) (omega arith)
 
 pub sound-called : (t : Timer) (c : Call) → Sound t → Sound (called t c)
-sound-called t (sample r) h = pick (decLe r 600000)
+sound-called t (sample r) h = pick (isAccepted r) refl
   where
-    pick : Dec (r ≤ 600000) → Sound (called t (sample r))
-    pick (yes small) = rw (accepted-moves t r small) (sound-sampled t r h small)
-    pick (no large) = rw (refusal-leaves t r (omega arith)) h
+    pick : (b : Bool) → isAccepted r ≡ b → Sound (called t (sample r))
+    pick true accepted = rw (accepted-moves t r accepted) (sound-sampled t r h (accepted-exactly r .0 accepted))
+    pick false refused = rw (refusal-leaves t r refused) h
 sound-called t expiry h =
     record {
       srtt-most = h .srtt-most;

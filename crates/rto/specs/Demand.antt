@@ -1,16 +1,17 @@
 -- Demand 3, as one claim over every list of calls from a new timer.
-use Prim.Native.Nat.{ℕ, _≤_, _<_}
+use Prim.Native.Nat.{ℕ}
+use mathlib.Core.Bool.{true, false}
 use mathlib.Core.List.{List, [], _∷_, _++_}
 use mathlib.Core.Path.{_≡_}
 use Rattle.rto.specs.Timer.{newTimer}
 use Rattle.rto.specs.Calls.{Call, sample, expiry, run}
 use Rattle.rto.specs.Fractions.{AtMost, Below, divided, sum, whole}
-use Rattle.rto.specs.Exact.{Exact, unset, set, exactRun, exactValue}
+use Rattle.rto.specs.Exact.{Exact, unset, set, exactRun, exactValue, withinLimit}
 
 -- samples that E14 refuses, and nothing else
 abbrev pub RefusedSamples : List Call → Type 0
 RefusedSamples [] = Unit
-RefusedSamples (sample r ∷ cs) = (600000 < r) × RefusedSamples cs
+RefusedSamples (sample r ∷ cs) = (withinLimit r ≡ false) × RefusedSamples cs
 RefusedSamples (expiry ∷ cs) = ⊥
 
 -- Some sample was not refused, and no expiry came after the last such sample: what came after it are refused samples alone.
@@ -19,7 +20,7 @@ pub record NoExpirySinceSample (calls : List Call) : Type 0 where
   pub rtt : ℕ
   pub after : List Call
   pub split : calls ≡ before ++ (sample rtt ∷ after)
-  pub not-refused : rtt ≤ 600000
+  pub not-refused : withinLimit rtt ≡ true
   pub last : RefusedSamples after
 
 -- no earlier than the exact value, and later than it by less than 330/256 ms

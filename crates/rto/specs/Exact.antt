@@ -1,7 +1,7 @@
 -- The exact value that demand 3 holds a timer to: RFC 6298's, worked from the calls' arguments alone in fractions that are never
 -- rounded (document 01, "The timer").
 use Prim.Native.Nat.{ℕ, zero, suc, _+_, _*_, _^_}
-use mathlib.Core.Bool.{cond}
+use mathlib.Core.Bool.{Bool, cond}
 use mathlib.Core.List.{List, [], _∷_}
 use lib.Dec.{leb}
 use Rattle.rto.specs.Calls.{Call, sample, expiry}
@@ -25,9 +25,13 @@ abbrev pub exactSampled : Exact → ℕ → Exact
 exactSampled unset r = set (whole (256 * r)) (whole (128 * r))
 exactSampled (set s v) r = set (exactSrtt s r) (exactRttvar s v r)
 
+-- E14 refuses a sample above 600,000 ms
+abbrev pub withinLimit : ℕ → Bool
+withinLimit r = leb r 600000
+
 -- an expiry, or a sample that E14 refuses, leaves them
 abbrev pub exactCalled : Exact → Call → Exact
-exactCalled e (sample r) = cond (leb r 600000) (exactSampled e r) e
+exactCalled e (sample r) = cond (withinLimit r) (exactSampled e r) e
 exactCalled e expiry = e
 
 abbrev pub exactRun : Exact → List Call → Exact
@@ -41,13 +45,13 @@ exactValue s v =
 
 -- 1 for a sample that is not refused
 abbrev pub counted : Call → ℕ
-counted (sample r) = cond (leb r 600000) 1 0
+counted (sample r) = cond (withinLimit r) 1 0
 counted expiry = 0
 
 -- how many samples were not refused
-abbrev pub accepted : List Call → ℕ
-accepted [] = 0
-accepted (c ∷ cs) = counted c + accepted cs
+abbrev pub acceptedCount : List Call → ℕ
+acceptedCount [] = 0
+acceptedCount (c ∷ cs) = counted c + acceptedCount cs
 
 -- a is a whole number over d
 pub record WholeOver (d : ℕ) (a : Fraction) : Type 0 where

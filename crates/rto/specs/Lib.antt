@@ -3,4 +3,3 @@ pub mod Calls
 pub mod Fractions
 pub mod Exact
 pub mod Demand
-pub mod Vectors

@@ -1,9 +1,8 @@
 -- The retransmission timer (document 01, "The timer"). S and V are in 1/256 ms, a sample R and the timer's value in ms.
-use mathlib.Core.Bool.{true, false, cond, _&&_}
+use mathlib.Core.Bool.{Bool, true, false, cond, _&&_}
 use mathlib.Core.Option.{Option, none, some}
 use mathlib.Core.Path.{_≡_}
 use Prim.Native.Nat.{ℕ, _+_, _-_, _*_, _/_, _≤_, min, max}
-use native.Mathlib.Omega.{arith}
 use lib.Dec.{leb}
 use Rattle.rto.specs.declared.Timer.{Timer}
 use Rattle.rto.specs.declared.SampleAnswer.{SampleAnswer}
@@ -36,13 +35,6 @@ withMargin s v = s + max 256 (4 * v) + 47
 abbrev pub wholeMs : ℕ → ℕ
 wholeMs n = (n + 255) / 256
 
-pub record LeastNotBelow (n m : ℕ) : Type 0 where
-  pub not-below : n ≤ 256 * m
-  pub least : (k : ℕ) → n ≤ 256 * k → m ≤ k
-
-pub whole-least : (n : ℕ) → LeastNotBelow n (wholeMs n)
-whole-least n = record { not-below = omega arith; least = λ k h. omega arith }
-
 -- raised to 1,000 ms or cut to 60,000 ms
 abbrev pub limited : ℕ → ℕ
 limited ms = min 60000 (max 1000 ms)
@@ -65,15 +57,18 @@ later s v r = estimatedBy (nextSrtt s r) (nextRttvar s v r)
 abbrev pub sampledBy : Timer → ℕ → Timer
 sampledBy t r = cond (t .sampled) (later (t .srtt) (t .rttvar) r) (first r)
 
+-- E14: a sample above 600,000 ms is refused
+abbrev pub isAccepted : ℕ → Bool
+isAccepted r = leb r 600000
+
 -- a sample's answer in document 01's terms: 0 and the timer after it, or the refusal's number alone
 pub record Answer : Type 0 where
   pub number : ℕ
   pub timer : Option Timer
 
--- E14: the sample is above 600,000 ms
 abbrev pub answered : Timer → ℕ → Answer
 answered t r =
-    cond (leb r 600000) (record { number = 0; timer = some (sampledBy t r) }) (record { number = 14; timer = none })
+    cond (isAccepted r) (record { number = 0; timer = some (sampledBy t r) }) (record { number = 14; timer = none })
 
 -- the same of each case of the answer that the code gives
 abbrev pub shown : SampleAnswer → Answer

@@ -1,11 +1,11 @@
 // The timer's arithmetic: S and V after a sample, and the value worked out of them.
 ghost use mathlib.Core.Path.{_≡_};
-ghost use Prim.Native.Nat.{_≤_, max};
+ghost use Prim.Native.Nat.{_*_, _^_, _≤_, _<_, max};
 ghost use Rattle.rto.specs.Timer.{apart, limited, mean, nextRttvar, nextSrtt, timeoutOf, twice};
 
 // S after a later sample.
 pub fn next_srtt(srtt: u32, rtt: u32) -> u32
-    requires { ⌜ rtt ≤ 600000 ⌝ }
+    requires { ⌜ 256 * rtt < 2 ^ 32 ⌝ }
     ensures { λ r. ⌜ r ≡ nextSrtt srtt rtt ⌝ }
 {
     weighted(8, srtt, 256 * rtt)
@@ -13,7 +13,7 @@ pub fn next_srtt(srtt: u32, rtt: u32) -> u32
 
 // V after a later sample; `srtt` is the S before it.
 pub fn next_rttvar(srtt: u32, rttvar: u32, rtt: u32) -> u32
-    requires { ⌜ rtt ≤ 600000 ⌝ }
+    requires { ⌜ 256 * rtt < 2 ^ 32 ⌝ }
     ensures { λ r. ⌜ r ≡ nextRttvar srtt rttvar rtt ⌝ }
 {
     weighted(4, rttvar, difference(srtt, 256 * rtt))

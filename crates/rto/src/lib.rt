@@ -2,8 +2,8 @@
 mod estimate;
 
 ghost use mathlib.Core.Path.{_≡_};
-ghost use Prim.Native.Nat.{_≤_};
-ghost use Rattle.rto.specs.Timer.{answered, estimatedBy, expired, millisecondsOf, newTimer, sampledBy, shown};
+ghost use mathlib.Core.Bool.{true};
+ghost use Rattle.rto.specs.Timer.{answered, estimatedBy, expired, isAccepted, millisecondsOf, newTimer, sampledBy, shown};
 ghost use Rattle.rto.specs.Calls.{called, sample};
 
 // The longest round-trip sample that is not refused, in ms.
@@ -58,7 +58,7 @@ impl Timer {
     pub fn sample(self, rtt: u32) -> SampleAnswer
         ensures { λ r. ⌜ shown r ≡ answered self rtt ⌝ }
     {
-        if rtt <= MAX_SAMPLE {
+        if is_accepted(rtt) {
             SampleAnswer::Moved(self.after(rtt))
         } else {
             SampleAnswer::Refused
@@ -87,7 +87,7 @@ impl Timer {
 
     // The timer after a sample that is not refused.
     fn after(self, rtt: u32) -> Timer
-        requires { ⌜ rtt ≤ 600000 ⌝ }
+        requires { ⌜ isAccepted rtt ≡ true ⌝ }
         ensures { λ r. ⌜ r ≡ sampledBy self rtt ⌝ }
     {
         let srtt = self.srtt;
@@ -113,6 +113,13 @@ pub fn milliseconds(srtt: u64, rttvar: u64) -> u32
         return 0;
     }
     estimate::timeout(srtt as u32, rttvar as u32)
+}
+
+// Whether a sample is not refused.
+fn is_accepted(rtt: u32) -> bool
+    ensures { λ r. ⌜ r ≡ isAccepted rtt ⌝ }
+{
+    rtt <= MAX_SAMPLE
 }
 
 // A timer whose S and V a sample has set.

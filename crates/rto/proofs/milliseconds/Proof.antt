@@ -1,17 +1,19 @@
 -- The tests pick the case. Assumes nothing.
+use mathlib.Core.Logic.{inl, inr}
+use mathlib.Core.Path.{sym, _∙_}
 use native.Mathlib.Omega.{arith}
 use borrow.Author.Needs.{needs}
-use borrow.Author.Tests.{le-leb, lt-leb}
+use Rattle.rto.proofs.Value.{milliseconds-above, milliseconds-within}
 use Rattle.rto.proofs.milliseconds.Statement.{statement}
 use Rattle.rto.proofs.milliseconds.Tie as tie
 
 returns : tie.Need-returns
-returns c = simp (lt-leb (c .before .args .srtt) 153600000 (omega arith))
+returns c = sym (milliseconds-above (c .before .args .srtt) (c .before .args .rttvar) (inl (omega arith)))
 
 returns-2 : tie.Need-returns-2
 returns-2 c =
     let args = c .before .before .args in
-    simp (le-leb (args .srtt) 153600000 (omega arith), lt-leb (args .rttvar) 153600000 (omega arith))
+    sym (milliseconds-above (args .srtt) (args .rttvar) (inr (omega arith)))
 
 cast-timeout : tie.Need-cast-timeout
 cast-timeout c = search needs
@@ -25,11 +27,7 @@ timeout-requires c κs = search needs
 returns-3 : tie.Need-returns-3
 returns-3 c =
     let args = c .before .before .before .args in
-    simp (
-      le-leb (args .srtt) 153600000 (omega arith),
-      le-leb (args .rttvar) 153600000 (omega arith),
-      c .timeout .ensures,
-    )
+    c .timeout .ensures ∙ sym (milliseconds-within (args .srtt) (args .rttvar) (omega arith) (omega arith))
 
 pub milliseconds-spec : {M : Type 1} → statement M
 milliseconds-spec =
