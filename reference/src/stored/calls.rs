@@ -32,6 +32,12 @@ impl CallList {
         self.add(&Call::Read { segment });
     }
 
+    /// By read and by the C entry.
+    pub fn read_by_both(&mut self, segment: &[u8]) {
+        self.read(segment);
+        self.add(&Call::Refusal { segment });
+    }
+
     pub fn open(&mut self, opening: &Opening, syn: &SegmentBuilder) {
         self.add(&Call::Open {
             opening: *opening,
@@ -90,10 +96,11 @@ impl CallList {
     }
 
     pub fn arrive_at(&mut self, clock: u64, segment: &SegmentBuilder) {
-        self.add(&Call::Arrive {
-            clock,
-            segment: &segment.build(),
-        });
+        self.arrive_octets(clock, &segment.build());
+    }
+
+    pub fn arrive_octets(&mut self, clock: u64, segment: &[u8]) {
+        self.add(&Call::Arrive { clock, segment });
     }
 
     /// Writes an acknowledgment to a buffer of so many octets, at the clock of the opening.
