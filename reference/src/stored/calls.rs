@@ -6,6 +6,9 @@ use crate::connection::Opening;
 use crate::script::Call;
 use crate::serial::Stamp;
 
+#[cfg(test)]
+use crate::{connection::Connection, play::Player, script::Calls};
+
 const FILLER: u8 = 0xee;
 
 /// Encoded calls, one behind the other.
@@ -132,5 +135,17 @@ impl CallList {
     pub fn distance(&mut self, a: u32, b: u32) {
         self.add(&Call::Distance { a, b });
         self.add(&Call::DistanceFromC { a, b });
+    }
+}
+
+#[cfg(test)]
+impl CallList {
+    /// The record that the calls lead to.
+    pub fn connection(&self) -> Connection {
+        let mut player = Player::default();
+        for call in Calls::new(&self.script) {
+            player.play(&call.unwrap(), &mut String::new());
+        }
+        *player.connection().unwrap()
     }
 }

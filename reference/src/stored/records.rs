@@ -153,3 +153,89 @@ pub fn outstanding_with_timestamps(calls: &mut CallList) {
     calls.sent(4_000);
     calls.arrive_at(SET, &stamped(5_000, 1_001, 0, LEFT_OUT));
 }
+
+#[cfg(test)]
+mod tests {
+    use super::*;
+    use crate::connection::Connection;
+    use crate::timer::Timer;
+
+    fn reached(start: Start) -> Connection {
+        let mut calls = CallList::default();
+        start(&mut calls);
+        calls.connection()
+    }
+
+    fn receive_side(start: Start) -> (u32, u32, u32, usize) {
+        let record = reached(start);
+        let held = record.held.as_slice().len();
+        (
+            record.rcv_nxt.0,
+            record.rcv_wnd,
+            record.last_ack_sent.0,
+            held,
+        )
+    }
+
+    fn send_side(start: Start) -> [u32; 5] {
+        let record = reached(start);
+        let numbers = [
+            record.snd_una,
+            record.snd_nxt,
+            record.snd_wl1,
+            record.snd_wl2,
+        ];
+        let [una, nxt, wl1, wl2] = numbers.map(|number| number.0);
+        [una, nxt, record.snd_wnd, wl1, wl2]
+    }
+
+    #[test]
+    fn receive_sides() {
+        assert_eq!(receive_side(extended), (5_000, 65_535, 5_000, 0));
+        assert_eq!(receive_side(window_0), (5_000, 0, 5_000, 0));
+        assert_eq!(receive_side(window_10), (5_000, 10, 5_000, 0));
+        assert_eq!(receive_side(full), (5_000, 65_535, 5_000, 8));
+        assert_eq!(receive_side(behind), (5_000, 65_535, 4_900, 0));
+    }
+
+    #[test]
+    fn send_sides() {
+        assert_eq!(send_side(extended), [1_000, 1_001, 8_192, 4_999, 1_000]);
+        for start in [window_0, full, behind] {
+            assert_eq!(send_side(start), [1_001, 1_001, 72, 5_000, 1_001]);
+        }
+        assert_eq!(send_side(unacknowledged), [1_001, 5_001, 72, 5_000, 1_001]);
+        for start in [
+            outstanding,
+            outstanding_with_sack,
+            outstanding_with_timestamps,
+        ] {
+            assert_eq!(send_side(start), [1_001, 5_001, 9, 5_000, 1_001]);
+        }
+    }
+
+    #[test]
+    fn timers() {
+        for start in [unacknowledged, full, behind, outstanding_with_timestamps] {
+            assert_eq!(reached(start).timer, Timer::default());
+        }
+        assert_eq!(reached(sampled).timer.rto, 6_001);
+    }
+
+    #[test]
+    fn what_is_in_force() {
+        let in_force = |start| {
+            let record = reached(start);
+            (
+                record.rcv_shift,
+                record.snd_shift,
+                record.timestamps,
+                record.sack,
+            )
+        };
+        assert_eq!(in_force(extended), (2, 3, true, true));
+        assert_eq!(in_force(bare), (0, 0, false, false));
+        assert_eq!(in_force(outstanding_with_sack), (0, 0, false, true));
+        assert_eq!(in_force(outstanding_with_timestamps), (0, 0, true, false));
+    }
+}

@@ -294,3 +294,27 @@ fn blocks(calls: &mut CallList) {
     ];
     arrive_blocks(calls, ACROSS_0, &edges);
 }
+
+#[cfg(test)]
+mod tests {
+    use super::*;
+
+    #[test]
+    fn a_side_is_reached() {
+        let mut calls = CallList::default();
+        SIDE.reach(&mut calls);
+        let record = calls.connection();
+        assert_eq!((record.snd_una, record.snd_nxt), (Seq(100), Seq(200)));
+        assert_eq!((record.snd_wl1, record.snd_wl2), (Seq(50), Seq(60)));
+        assert_eq!(record.snd_wnd, 8);
+    }
+
+    #[test]
+    fn wl2_is_left_far_behind() {
+        let mut calls = CallList::default();
+        reach_far_una(&mut calls, Seq(HALF + 150), HALF - 50);
+        let record = calls.connection();
+        assert_eq!((record.snd_una, record.snd_nxt), (Seq(100), Seq(200)));
+        assert_eq!((record.snd_wl1, record.snd_wl2), (Seq(50), Seq(HALF + 150)));
+    }
+}
