@@ -126,7 +126,7 @@ impl Connection {
         Ok(())
     }
 
-    /// Tells the record that its retransmission timer expired.
+    /// Notes that the retransmission timer expired.
     pub fn expire(&mut self) {
         self.timer.expire();
     }
@@ -282,7 +282,7 @@ impl Connection {
         }
     }
 
-    /// Moves SND.UNA and the send window; tells whether the ACK is new.
+    /// Moves SND.UNA and the send window; says whether the ACK is new.
     fn process_ack(&mut self, segment: &Segment) -> bool {
         let acked = self.snd_una.offset_of(segment.ack);
         let is_new = acked > 0 && acked <= self.snd_una.offset_of(self.snd_nxt);

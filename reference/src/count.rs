@@ -98,7 +98,7 @@ impl Display for Counts {
     }
 }
 
-/// The name of a call in the table; the two distances are told apart.
+/// The name of a call in the table; the two distances have names of their own.
 fn name(call: &Call) -> &'static str {
     match call {
         Call::Read { .. } => "read",

@@ -186,7 +186,7 @@ mod tests {
     }
 
     #[test]
-    fn a_timer_that_heeds_only_its_first_sample_is_caught() {
+    fn a_timer_that_uses_only_its_first_sample_is_caught() {
         let mut frozen = Timer::default();
         frozen.sample(1_000).unwrap();
         let judged = exact(&[1_000, 1_000]).judge(frozen.rto, LATENESS_LIMIT);

@@ -118,12 +118,12 @@ fn naming(program: &str, error: io::Error) -> io::Error {
     io::Error::new(error.kind(), format!("{}: {}", program, error))
 }
 
-/// Tells standard error how many calls are done, at most once a second.
+/// Writes to standard error how many calls are done, at most once a second.
 fn progress_of(count: u64) -> impl FnMut(u64) {
-    let mut told = Instant::now();
+    let mut shown = Instant::now();
     move |done| {
-        if told.elapsed() >= Duration::from_secs(1) {
-            told = Instant::now();
+        if shown.elapsed() >= Duration::from_secs(1) {
+            shown = Instant::now();
             eprintln!("compared {} of {} calls", done, count);
         }
     }

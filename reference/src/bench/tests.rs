@@ -1,4 +1,4 @@
-//! Answers to small streams, each sum worked out by hand.
+//! Answers to small streams, each sum worked out beside the program.
 
 use super::*;
 use crate::builder::SegmentBuilder;

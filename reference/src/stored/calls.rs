@@ -6,6 +6,9 @@ use crate::connection::Opening;
 use crate::script::Call;
 use crate::serial::Stamp;
 
+#[cfg(test)]
+use crate::{connection::Connection, play::Player, script::Calls};
+
 const FILLER: u8 = 0xee;
 
 /// Encoded calls, one behind the other.
@@ -30,6 +33,12 @@ impl CallList {
 
     pub fn read(&mut self, segment: &[u8]) {
         self.add(&Call::Read { segment });
+    }
+
+    /// By read and by the C entry.
+    pub fn read_by_both(&mut self, segment: &[u8]) {
+        self.read(segment);
+        self.add(&Call::Refusal { segment });
     }
 
     pub fn open(&mut self, opening: &Opening, syn: &SegmentBuilder) {
@@ -90,10 +99,11 @@ impl CallList {
     }
 
     pub fn arrive_at(&mut self, clock: u64, segment: &SegmentBuilder) {
-        self.add(&Call::Arrive {
-            clock,
-            segment: &segment.build(),
-        });
+        self.arrive_octets(clock, &segment.build());
+    }
+
+    pub fn arrive_octets(&mut self, clock: u64, segment: &[u8]) {
+        self.add(&Call::Arrive { clock, segment });
     }
 
     /// Writes an acknowledgment to a buffer of so many octets, at the clock of the opening.
@@ -125,5 +135,17 @@ impl CallList {
     pub fn distance(&mut self, a: u32, b: u32) {
         self.add(&Call::Distance { a, b });
         self.add(&Call::DistanceFromC { a, b });
+    }
+}
+
+#[cfg(test)]
+impl CallList {
+    /// The record that the calls lead to.
+    pub fn connection(&self) -> Connection {
+        let mut player = Player::default();
+        for call in Calls::new(&self.script) {
+            player.play(&call.unwrap(), &mut String::new());
+        }
+        *player.connection().unwrap()
     }
 }

@@ -5,6 +5,7 @@ use crate::script::Call;
 use crate::serial::Stamp;
 
 use super::calls::CallList;
+use super::refusing::zeros;
 
 pub fn add(calls: &mut CallList) {
     let segment = data(NEXT, 4)
@@ -34,6 +35,8 @@ pub fn add(calls: &mut CallList) {
     find(calls, &[8], &data(NEXT, 12).build());
     unreadable(calls);
     ended(calls);
+    first_of_its_kind(calls);
+    not_there(calls);
 }
 
 fn find(calls: &mut CallList, kinds: &[u8], segment: &[u8]) {
@@ -59,4 +62,39 @@ fn ended(calls: &mut CallList) {
     let ended = data(NEXT, 0).options(&[254, 2, 0, 0]).mss(536);
     find(calls, &[2], &ended.build());
     find(calls, &[2, 254], &ended.build());
+}
+
+/// An unknown kind twice and window scale: the first of a kind, the segment's order, kinds 0 and 1, a kind that is not there.
+fn first_of_its_kind(calls: &mut CallList) {
+    let mixed = zeros(128, &[1, 254, 3, 9, 254, 2, 3, 3, 7, 0, 1, 1]);
+    let lists: [&[u8]; 8] = [
+        &[254],
+        &[3],
+        &[3, 254],
+        &[8, 3],
+        &[0, 1],
+        &[0, 1, 3],
+        &[8],
+        &[],
+    ];
+    for kinds in lists {
+        find(calls, kinds, &mixed);
+    }
+    find(calls, &[254], &zeros(96, &[254, 2, 254, 2]));
+}
+
+/// Behind kind 0, in the payload, and in segments with each refusal, behind the match too.
+fn not_there(calls: &mut CallList) {
+    let segments = [
+        zeros(96, &[0, 254, 2, 0]),
+        zeros(80, &[254, 2]),
+        zeros(112, &[254, 2, 1, 1]),
+        zeros(96, &[254, 2, 254, 3]),
+        zeros(96, &[254, 2, 4, 1]),
+        zeros(112, &[254, 2, 4, 3, 0, 0, 0, 0]),
+        zeros(112, &[254, 2, 4, 2, 4, 2, 0, 0]),
+    ];
+    for segment in &segments {
+        find(calls, &[254], segment);
+    }
 }

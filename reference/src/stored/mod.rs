@@ -1,19 +1,30 @@
 //! The stored script: the examples of RFC 2018, the marked cases, both sides of every limit, random calls; and the stored stream.
 
 mod acknowledging;
+mod answering;
 mod calls;
+mod edges;
+mod fields;
 mod finding;
+mod holding;
+mod judging;
 mod marked;
+mod numbers;
+mod offering;
 mod opening;
 mod ranges;
 mod reading;
+mod records;
+mod refusing;
 mod rfc2018;
+mod send_side;
 mod sending;
 mod stream;
 mod taking;
 mod timers;
 mod unopened;
 mod verdicts;
+mod writing;
 
 use crate::generate::Generator;
 use crate::random::Random;
@@ -35,14 +46,24 @@ pub fn script() -> Vec<u8> {
     unopened::add(&mut calls);
     rfc2018::add(&mut calls);
     marked::add(&mut calls);
+    numbers::add(&mut calls);
     reading::add(&mut calls);
+    fields::add(&mut calls);
+    refusing::add(&mut calls);
     finding::add(&mut calls);
+    offering::add(&mut calls);
     opening::add(&mut calls);
     verdicts::add(&mut calls);
+    judging::add(&mut calls);
     taking::add(&mut calls);
+    answering::add(&mut calls);
+    edges::add(&mut calls);
     ranges::add(&mut calls);
+    holding::add(&mut calls);
     acknowledging::add(&mut calls);
+    writing::add(&mut calls);
     sending::add(&mut calls);
+    send_side::add(&mut calls);
     timers::add(&mut calls);
     let mut script = calls.into_script();
     script.extend(random_calls());
@@ -87,7 +108,7 @@ mod tests {
     #[test]
     fn sizes() {
         let script = script();
-        assert!((150_000..500_000).contains(&script.len()));
+        assert!((150_000..600_000).contains(&script.len()));
         assert!(play(&script).len() < 1_500_000);
     }
 }

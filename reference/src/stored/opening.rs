@@ -8,6 +8,8 @@ use crate::segment::{ACK, FIN, PSH, RST, SYN};
 use crate::serial::{Seq, Stamp};
 
 use super::calls::CallList;
+use super::offering::open_with_octets;
+use super::records::{bare_syn, full_syn, own, SET};
 
 pub fn add(calls: &mut CallList) {
     own_offers(calls);
@@ -17,6 +19,8 @@ pub fn add(calls: &mut CallList) {
     every_pair_of_offers(calls);
     peer_options(calls);
     clocks(calls);
+    from_all_offers(calls);
+    refused(calls);
 }
 
 fn own_offers(calls: &mut CallList) {
@@ -49,19 +53,7 @@ fn own_offers(calls: &mut CallList) {
 /// The shift octet without its offer, and offer bits without a meaning.
 fn ignored_octets(calls: &mut CallList) {
     for (shift, offers) in [(255, 0x03), (15, 0xfb), (3, 0xff)] {
-        let mut script = Vec::new();
-        let everything = syn()
-            .scale(5)
-            .sack_permitted()
-            .timestamps(Stamp(3), Stamp(0));
-        let call = Call::Open {
-            opening: opening(),
-            segment: &everything.build(),
-        };
-        call.encode(&mut script);
-        script[9] = shift;
-        script[10] = offers;
-        calls.add_encoded(&script);
+        open_with_octets(calls, &opening(), shift, offers, SYN | ACK);
     }
 }
 
@@ -150,5 +142,75 @@ fn clocks(calls: &mut CallList) {
         };
         calls.open(&opening, &syn().timestamps(Stamp(u32::MAX), Stamp(0)));
         calls.acknowledge_at(clock, 32);
+    }
+}
+
+/// Our side offers everything, or nothing with a window of 9; the peer offers everything, something or nothing.
+fn from_all_offers(calls: &mut CallList) {
+    let offered = [
+        full_syn(4_999),
+        // With ACK; payload and FIN on a SYN are not used.
+        SegmentBuilder::new(Seq(4_999), Seq(1_001), SYN | ACK | FIN)
+            .mss(1_460)
+            .sack_permitted()
+            .timestamps(Stamp(50), Stamp(0))
+            .options(&[1])
+            .scale(3)
+            .payload(9),
+        bare_syn(4_999),
+        bare_syn(4_999).options(&[4, 2, 1, 1]),
+        bare_syn(4_999)
+            .mss(0)
+            .options(&[1, 1])
+            .timestamps(Stamp(0), Stamp(0)),
+        // An ACK field without its flag.
+        SegmentBuilder::new(Seq(4_999), Seq(77), SYN),
+    ];
+    for syn in &offered {
+        calls.open(&own(), syn);
+    }
+    calls.open(&offering_nothing(1_000, 9), &full_syn(4_999));
+    // ISS + 1 and SEQ + 1 wrap.
+    let wrapped = SegmentBuilder::new(Seq(u32::MAX), Seq(0), SYN | ACK).window(5);
+    calls.open(&offering_nothing(u32::MAX, 9), &wrapped);
+}
+
+fn offering_nothing(iss: u32, window: u32) -> Opening {
+    Opening {
+        iss: Seq(iss),
+        window,
+        offset: 7,
+        clock: SET,
+        ..opening()
+    }
+}
+
+/// E9 before reading, reading before E10, E10 before E11.
+fn refused(calls: &mut CallList) {
+    let segment: &[u8] = &[];
+    let too_large = Opening {
+        shift: Some(15),
+        ..offering_nothing(1_000, 9)
+    };
+    for opening in [too_large, offering_nothing(1_000, 65_536), own()] {
+        calls.add(&Call::Open { opening, segment });
+    }
+    let opening = own();
+    let segment: &[u8] = &[0; 20];
+    calls.add(&Call::Open { opening, segment });
+    for options in [[8, 9, 0, 0], [2, 3, 0, 0], [4, 2, 4, 2]] {
+        let syn = bare_syn(4_999).flags(RST).window(0).options(&options);
+        calls.open(&own(), &syn);
+    }
+    let segments = [
+        (0, ACK),
+        (0, SYN | RST),
+        (77, SYN | RST | ACK),
+        (1_000, SYN | ACK),
+        (1_002, SYN | ACK),
+    ];
+    for (ack, flags) in segments {
+        let syn = SegmentBuilder::new(Seq(4_999), Seq(ack), flags).window(0);
+        calls.open(&own(), &syn);
     }
 }

@@ -4,7 +4,7 @@ use crate::builder::{SegmentBuilder, MAX_OPTIONS};
 use crate::cases::{data, opening, CLOCK, NEXT, UNA};
 use crate::ranges::Range;
 use crate::script::Call;
-use crate::segment::{ACK, MAX_SEGMENT};
+use crate::segment::ACK;
 use crate::serial::{Seq, Stamp};
 
 use super::calls::CallList;
@@ -16,32 +16,23 @@ pub fn add(calls: &mut CallList) {
     for segment in faulty_headers().iter().chain(&faulty_options()) {
         add_everywhere(calls, segment);
     }
-    add_longest(calls);
     for kind in KNOWN_KINDS {
         add_every_length(calls, kind);
         add_repeated(calls, kind);
     }
     for segment in readable() {
-        add_both_readers(calls, &segment);
+        calls.read_by_both(&segment);
     }
 }
 
 /// By read, by the C entry, by an arrival and by an opening.
 fn add_everywhere(calls: &mut CallList, segment: &[u8]) {
-    add_both_readers(calls, segment);
-    calls.add(&Call::Arrive {
-        clock: CLOCK,
-        segment,
-    });
+    calls.read_by_both(segment);
+    calls.arrive_octets(CLOCK, segment);
     calls.add(&Call::Open {
         opening: opening(),
         segment,
     });
-}
-
-fn add_both_readers(calls: &mut CallList, segment: &[u8]) {
-    calls.read(segment);
-    calls.add(&Call::Refusal { segment });
 }
 
 fn header() -> SegmentBuilder {
@@ -97,12 +88,6 @@ fn faulty_options() -> Vec<Vec<u8>> {
     ]
 }
 
-/// Both sides of the longest segment.
-fn add_longest(calls: &mut CallList) {
-    calls.read(&shaped(5, MAX_SEGMENT));
-    add_everywhere(calls, &shaped(5, MAX_SEGMENT + 1));
-}
-
 /// An option of so many octets.
 fn filled_option(kind: u8, length: usize) -> Vec<u8> {
     let mut option = vec![kind, length as u8];
@@ -113,7 +98,7 @@ fn filled_option(kind: u8, length: usize) -> Vec<u8> {
 /// One known kind with every length that a header has room for.
 fn add_every_length(calls: &mut CallList, kind: u8) {
     for length in 2..=MAX_OPTIONS {
-        add_both_readers(calls, &with_options(&filled_option(kind, length)));
+        calls.read_by_both(&with_options(&filled_option(kind, length)));
     }
 }
 
@@ -125,7 +110,7 @@ fn add_repeated(calls: &mut CallList, kind: u8) {
         _ => 10,
     };
     let option = filled_option(kind, length);
-    add_both_readers(calls, &header().options(&option).options(&option).build());
+    calls.read_by_both(&header().options(&option).options(&option).build());
 }
 
 fn readable() -> Vec<Vec<u8>> {

@@ -10,6 +10,8 @@ pub fn add(calls: &mut CallList) {
     expiries(calls);
     alternating(calls);
     record_expiries(calls);
+    lists(calls);
+    doublings(calls);
     milliseconds(calls);
 }
 
@@ -56,6 +58,42 @@ fn record_expiries(calls: &mut CallList) {
     }
 }
 
+/// Short lists of samples on a new timer, each with an expiry at its end.
+fn lists(calls: &mut CallList) {
+    let lists: [&[u32]; 6] = [
+        &[2_000],
+        &[2_000, 2_003, 2_000, 2_001, 2_003],
+        &[1_000, 0],
+        &[0],
+        &[600_000],
+        &[600_001],
+    ];
+    for samples in lists {
+        calls.add(&Call::Timer);
+        for &round_trip in samples {
+            calls.sample(round_trip);
+        }
+        calls.add(&Call::Expiry);
+    }
+}
+
+/// Doubling from 24,999, 25,000, 29,999, 30,000 and 30,001 ms: up to 60,000 it is exact.
+fn doublings(calls: &mut CallList) {
+    let pairs = [
+        (9_999, 9_998),
+        (9_999, 10_001),
+        (11_999, 11_998),
+        (11_999, 12_001),
+        (12_000, 12_000),
+    ];
+    for (first, second) in pairs {
+        calls.add(&Call::Timer);
+        calls.sample(first);
+        calls.sample(second);
+        calls.add(&Call::Expiry);
+    }
+}
+
 fn milliseconds(calls: &mut CallList) {
     let limit = MAX_SMOOTHED;
     let pairs = [
@@ -74,6 +112,9 @@ fn milliseconds(calls: &mut CallList) {
         (u64::MAX - 255, 1 << 62),
         (256_000, 128_000),
         (256_032, 96_064),
+        (512_096, 192_192),
+        (511_953, 0),
+        (511_954, 0),
     ];
     for (smoothed, variation) in pairs {
         add_milliseconds(calls, smoothed, variation);
