@@ -12,7 +12,7 @@ use Rattle.send.specs.declared.SentOutcome.{SentOutcome}
 use Rattle.send.specs.declared.AckFields.{AckFields}
 
 -- SND.NXT = ISS+1; UNA = ISS+1 if the SYN has ACK, else ISS. SND.WND is the window unscaled. WL1 = SEQ; WL2 = ACK if the flag is set,
--- else ISS. A shift above 14 counts as 14: the peer's is cut so, and E9 refuses our own.
+-- else ISS. A shift above 14 counts as 14: an opening cuts the peer's before, and passes none.
 unfoldable pub opened : ℕ → ℕ → AckFields → Bool → Send
 opened iss shift syn flag = record {
   una = record { 0 = cond flag (movedBy iss 1) iss };
