@@ -9,20 +9,12 @@ use Rattle.laws.proofs.Choices.{either}
 use Rattle.serial.specs.Serial.{offsetOf}
 use Rattle.serial.specs.declared.Range.{Range}
 use Rattle.serial.proofs.Distance.{neither-before}
-use Rattle.serial.proofs.Order.{at-or-before-exactly, before-exactly}
+use Rattle.serial.proofs.Order.{AtOrBefore, Before, at-or-before-exactly, before-exactly}
 use Rattle.send.specs.Send.{acknowledged, exceedsWindow, isCurrent, isLater, isListed, isNew, isUnsent, opened, sent, taken, updatesWindow, windowed}
 use Rattle.send.specs.declared.AckFields.{AckFields}
 use Rattle.send.specs.declared.Send.{Send}
 use Rattle.send.proofs.Refusal.{sent-moves, sent-refusal-leaves}
 use Rattle.send.proofs.Tests.{at-most, below, both, chosen, equal, one}
-
--- document 01's "a before b" and "a at or before b", by the offset of b from a
-module _ (a b : ℕ) where
-  abbrev pub Before : Type 0
-  Before = (0 < offsetOf a b) × (offsetOf a b < 2 ^ 31)
-
-  abbrev pub AtOrBefore : Type 0
-  AtOrBefore = offsetOf a b < 2 ^ 31
 
 module _ (iss shift : ℕ) (syn : AckFields) where
   -- SND.NXT = ISS+1, SND.WND is the window unscaled, WL1 = SEQ

@@ -17,7 +17,7 @@ module _ (a b : ℕ) where
   abbrev o : ℕ
   o = offsetOf a b
 
-  -- an offset below 2^31 is the distance; a larger one is 2^32 above it
+  -- an offset below 2^31 is the distance itself; a larger one is 2^32 more than the distance
   pub distance-ahead : o < 2 ^ 31 → distanceOf a b ≡ pos o
   distance-ahead h = sym (distance-only a b (pos o) (omega (arith, moved-offset a b)))
 
@@ -25,10 +25,13 @@ module _ (a b : ℕ) where
   distance-behind h = sym (distance-only a b (negsuc (2 ^ 32 - 1 - o)) (omega (arith, moved-offset a b, offset-below a b)))
 
   -- a before b: the distance is above 0
-  pub before-exactly : isBefore a b ≡ true ↔ (0 < o) × (o < 2 ^ 31)
+  abbrev pub Before : Type 0
+  Before = (0 < o) × (o < 2 ^ 31)
+
+  pub before-exactly : isBefore a b ≡ true ↔ Before
   before-exactly = pick (decLt o (2 ^ 31))
     where
-      pick : Dec (o < 2 ^ 31) → isBefore a b ≡ true ↔ (0 < o) × (o < 2 ^ 31)
+      pick : Dec (o < 2 ^ 31) → isBefore a b ≡ true ↔ Before
       pick (yes h) =
           let e : isBefore a b ≡ ltb 0 o = ap (ltZ (pos 0)) (distance-ahead h) in
           (λ t. (ltb-true 0 o (sym e ∙ t), h), λ k. e ∙ lt-ltb 0 o (k .0))
@@ -37,10 +40,13 @@ module _ (a b : ℕ) where
           (λ t. absurd (false≢true (sym e ∙ t)), λ k. absurd (h (k .1)))
 
   -- a at or before b: it is at least 0
-  pub at-or-before-exactly : isAtOrBefore a b ≡ true ↔ o < 2 ^ 31
+  abbrev pub AtOrBefore : Type 0
+  AtOrBefore = o < 2 ^ 31
+
+  pub at-or-before-exactly : isAtOrBefore a b ≡ true ↔ AtOrBefore
   at-or-before-exactly = pick (decLt o (2 ^ 31))
     where
-      pick : Dec (o < 2 ^ 31) → isAtOrBefore a b ≡ true ↔ o < 2 ^ 31
+      pick : Dec (o < 2 ^ 31) → isAtOrBefore a b ≡ true ↔ AtOrBefore
       pick (yes h) = (λ _. h, λ _. ap (leZ (pos 0)) (distance-ahead h) ∙ le-leb 0 o (omega arith))
       pick (no h) =
           let e : isAtOrBefore a b ≡ false = ap (leZ (pos 0)) (distance-behind (omega arith)) in
