@@ -54,6 +54,9 @@ module _ (t : Timestamping) (clock : ℕ) where
   missing-not value rst (inr (inl present)) = rw present (and-false (t .active))
   missing-not value rst (inr (inr reset)) = rw (reset, and-false (not (isPresent value))) (and-false (t .active))
 
+  pub present-not-missing : (stamp : Stamp) (rst : Bool) → isMissing t (Tsval.Value stamp) rst ≡ false
+  present-not-missing stamp rst = missing-not (Tsval.Value stamp) rst (inr (inl refl))
+
   -- 22: timestamps in force, no RST, TSval before TS.Recent, TS.Recent not outdated; in no other case
   pub old-given : (value : Tsval) → t .active ≡ true → valueBefore (t .recent .0) value ≡ true → outdated t clock ≡ false
       → isOld t clock value false ≡ true
@@ -69,6 +72,10 @@ module _ (t : Timestamping) (clock : ℕ) where
   old-not value rst (inr (inr (inl after))) = rw (after, and-false (not rst)) (and-false (t .active))
   old-not value rst (inr (inr (inr late))) =
       rw (late, and-false (valueBefore (t .recent .0) value), and-false (not rst)) (and-false (t .active))
+
+  pub absent-not-old : (rst : Bool) → isOld t clock Tsval.Absent rst ≡ false
+  unfolding valueBefore
+  absent-not-old rst = old-not Tsval.Absent rst (inr (inr (inl refl)))
 
   -- a TSval 2^31 ticks from TS.Recent is not old
   pub half-way-not-old : (stamp : Stamp) (rst : Bool) → offsetOf (stamp .0) (t .recent .0) ≡ 2 ^ 31
