@@ -1,2 +1,1 @@
 pub mod Setup
-pub mod Vectors

@@ -1,6 +1,7 @@
--- No operation changes the shift, so that every send side that they give back is sound. Assumes nothing.
+-- An opening cuts the shift and no other operation changes it, so that every send side that they give back is sound. Assumes nothing.
 use mathlib.Core.Bool.{Bool}
-use Prim.Native.Nat.{ℕ, _≤_}
+use Prim.Native.Nat.{ℕ}
+use native.Mathlib.Omega.{arith}
 use Rattle.laws.proofs.Choices.{either}
 use Rattle.serial.specs.declared.Seq.{Seq}
 use Rattle.send.specs.Send.{Answer, acknowledged, exceedsWindow, opened, sent, taken, updatesWindow, windowed}
@@ -8,9 +9,9 @@ use Rattle.send.specs.Sound.{Sound}
 use Rattle.send.specs.declared.Send.{Send}
 use Rattle.send.specs.declared.AckFields.{AckFields}
 
-pub opened-sound : (iss shift : ℕ) (syn : AckFields) (flag : Bool) → shift ≤ 14 → Sound (opened iss shift syn flag)
+pub opened-sound : (iss shift : ℕ) (syn : AckFields) (flag : Bool) → Sound (opened iss shift syn flag)
 unfolding opened
-opened-sound iss shift syn flag most = record { shift-most = most }
+opened-sound iss shift syn flag = record { shift-most = omega arith }
 
 module _ (s : Send) where
   pub acknowledged-sound : (ack : Seq) → Sound s → Sound (acknowledged s ack)

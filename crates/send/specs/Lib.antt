@@ -1,3 +1,2 @@
 pub mod Send
 pub mod Sound
-pub mod Vectors

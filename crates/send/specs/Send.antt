@@ -1,7 +1,7 @@
 -- The send side: at its opening, after a segment is taken and after octets are sent, and the listing rule for the peer's SACK blocks
 -- (document 01, "Opening", E12 and "What taking does").
 use mathlib.Core.Bool.{Bool, cond, _&&_, _||_}
-use Prim.Native.Nat.{ℕ, _+_, _*_, _^_}
+use Prim.Native.Nat.{ℕ, min, _+_, _*_, _^_}
 use lib.Dec.{eqb, leb, ltb}
 use Rattle.serial.specs.Serial.{isAtOrBefore, isBefore, movedBy, offsetOf}
 use Rattle.serial.specs.declared.Range.{Range}
@@ -12,13 +12,13 @@ use Rattle.send.specs.declared.SentOutcome.{SentOutcome}
 use Rattle.send.specs.declared.AckFields.{AckFields}
 
 -- SND.NXT = ISS+1; UNA = ISS+1 if the SYN has ACK, else ISS. SND.WND is the window unscaled. WL1 = SEQ; WL2 = ACK if the flag is set,
--- else ISS.
+-- else ISS. A shift above 14 counts as 14: an opening cuts the peer's before, and passes none.
 unfoldable pub opened : ℕ → ℕ → AckFields → Bool → Send
 opened iss shift syn flag = record {
   una = record { 0 = cond flag (movedBy iss 1) iss };
   nxt = record { 0 = movedBy iss 1 };
   window = syn .window;
-  shift = shift;
+  shift = min shift 14;
   wl1 = syn .seq;
   wl2 = record { 0 = cond flag (syn .ack .0) iss };
 }

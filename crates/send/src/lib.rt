@@ -1,11 +1,14 @@
 // The send side of a connection, as far as arriving acknowledgments move it: which are new, the send window, the octets noted as sent,
 // and which of the peer's SACK blocks are listed.
 ghost use mathlib.Core.Path.{_≡_};
-ghost use Prim.Native.Nat.{_≤_};
+ghost use Prim.Native.Nat.{min, _≤_};
 ghost use Rattle.send.specs.Send.{acknowledged, exceedsWindow, isCurrent, isLater, isListed, isNew, isUnsent, numberOf, opened, sent, shown, taken, updatesWindow, windowed};
 ghost use Rattle.send.specs.Sound.{Sound};
 use serial::Range;
 use serial::Seq;
+
+// The greatest shift of a window.
+const MAX_SHIFT: u32 = 14;
 
 pub struct Send {
     // SND.UNA and SND.NXT.
@@ -19,7 +22,7 @@ pub struct Send {
     pub wl2: Seq,
 }
 
-// RFC 9293's SEG.SEQ, SEG.ACK and SEG.WND: what a segment tells the send side.
+// RFC 9293's SEG.SEQ, SEG.ACK and SEG.WND: what a segment says to the send side.
 pub struct AckFields {
     pub seq: Seq,
     pub ack: Seq,
@@ -33,7 +36,7 @@ pub enum SentOutcome {
     Refused,
 }
 
-// Where the octets are refused, the send side is the one handed in.
+// Where the octets are refused, the send side is the one that was passed.
 pub struct SentAnswer {
     pub outcome: SentOutcome,
     pub send: Send,
@@ -52,11 +55,13 @@ impl SentOutcome {
 }
 
 impl Send {
-    // A send side at its opening by the peer's SYN, which has the ACK flag or not.
+    // A send side at its opening by the peer's SYN, which has the ACK flag or not. A shift above 14 counts as 14.
     pub fn new(iss: Seq, shift: u32, syn: AckFields, flag: bool) -> Send
-        ensures { λ r. ⌜ r ≡ opened (iss .0) shift syn flag ⌝ }
+        ensures opened { λ r. ⌜ r ≡ opened (iss .0) shift syn flag ⌝ }
+        ensures sound { λ r. ⌜ Sound r ⌝ }
     {
         let nxt = iss.moved(1);
+        let shift = at_most_14(shift);
         let window = syn.window as u32;
         let wl1 = syn.seq;
         let ack = syn.ack;
@@ -213,4 +218,10 @@ impl Send {
             ..self
         }
     }
+}
+
+fn at_most_14(shift: u32) -> u32
+    ensures { λ r. ⌜ r ≡ min shift 14 ⌝ }
+{
+    if shift < MAX_SHIFT { shift } else { MAX_SHIFT }
 }

@@ -1,2 +1,4 @@
+pub mod Clock
 pub mod Distance
 pub mod Offset
+pub mod Order

@@ -1,4 +1,4 @@
-// Serial numbers: 32-bit numbers that come round, as sequence numbers and timestamps do. The two kinds are types of their own, and
+// Serial numbers: 32-bit numbers that wrap, as sequence numbers and timestamps do. The two kinds are types of their own, and
 // share their definitions and laws.
 ghost use mathlib.Core.Path.{_≡_};
 ghost use Prim.Native.Nat.{_<_, _^_};

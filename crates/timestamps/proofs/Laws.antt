@@ -7,12 +7,13 @@ use native.Mathlib.Omega.{arith}
 use lib.IntN.{pos}
 use lib.Signed.{ltZ}
 use borrow.Author.Tests.{lt-ltb, ltb-true}
-use Rattle.serial.specs.Serial.{isAtOrBefore, isBefore, movedBy, offsetOf}
+use Rattle.serial.specs.Serial.{isAtOrBefore, isBefore, movedBy, offsetOf, stampAt}
 use Rattle.serial.specs.declared.Stamp.{Stamp}
+use Rattle.serial.proofs.Clock.{sample-back}
 use Rattle.serial.proofs.Distance.{distance-both-moved, neither-before}
 use Rattle.timestamps.specs.declared.Timestamping.{Timestamping}
 use Rattle.timestamps.specs.declared.Tsval.{Tsval}
-use Rattle.timestamps.specs.Timestamps.{isMissing, isOld, isPresent, isRecorded, outdated, replacesRecent, stampOf, taken, valueBefore}
+use Rattle.timestamps.specs.Timestamps.{isMissing, isOld, isPresent, isRecorded, opened, outdated, replacesRecent, sampleAt, stampOf, taken, valueBefore}
 
 -- TSval is compared with TS.Recent by the distance of serial numbers
 pub by-distance : (recent : ℕ) (stamp : Stamp) → valueBefore recent (Tsval.Value stamp) ≡ isBefore (stamp .0) recent
@@ -25,6 +26,22 @@ pub before-moved : (recent stamp n : ℕ)
 unfolding valueBefore
 before-moved recent stamp n = ap (ltZ (pos 0)) (distance-both-moved stamp recent n)
 
+-- TS.Recent = TSval (0 if not in force), set at this clock
+module _ (offset clock : ℕ) where
+  pub opened-in-force : (stamp : Stamp)
+      → opened true offset clock (Tsval.Value stamp) ≡ record { active = true; recent = stamp; since = clock; offset = offset }
+  unfolding opened
+  opened-in-force stamp = refl
+
+  pub opened-not-in-force : (value : Tsval)
+      → opened false offset clock value ≡ record { active = false; recent = record { 0 = 0 }; since = clock; offset = offset }
+  unfolding opened
+  opened-not-in-force value = refl
+
+-- R = (our timestamp - TSecr) mod 2^32: our timestamp that is echoed n ms later gives n
+pub sample-echoed : (t : Timestamping) (clock n : ℕ) → n < 2 ^ 32 → sampleAt t (clock + n) (stampAt clock (t .offset)) ≡ n
+sample-echoed t clock n small = sample-back clock n (t .offset) small
+
 module _ (t : Timestamping) (clock : ℕ) where
   -- 21: timestamps in force, none here, no RST; in no other case
   pub missing-given : t .active ≡ true → isMissing t Tsval.Absent false ≡ true
@@ -36,6 +53,9 @@ module _ (t : Timestamping) (clock : ℕ) where
   missing-not value rst (inl off) = rw off
   missing-not value rst (inr (inl present)) = rw present (and-false (t .active))
   missing-not value rst (inr (inr reset)) = rw (reset, and-false (not (isPresent value))) (and-false (t .active))
+
+  pub present-not-missing : (stamp : Stamp) (rst : Bool) → isMissing t (Tsval.Value stamp) rst ≡ false
+  present-not-missing stamp rst = missing-not (Tsval.Value stamp) rst (inr (inl refl))
 
   -- 22: timestamps in force, no RST, TSval before TS.Recent, TS.Recent not outdated; in no other case
   pub old-given : (value : Tsval) → t .active ≡ true → valueBefore (t .recent .0) value ≡ true → outdated t clock ≡ false
@@ -52,6 +72,10 @@ module _ (t : Timestamping) (clock : ℕ) where
   old-not value rst (inr (inr (inl after))) = rw (after, and-false (not rst)) (and-false (t .active))
   old-not value rst (inr (inr (inr late))) =
       rw (late, and-false (valueBefore (t .recent .0) value), and-false (not rst)) (and-false (t .active))
+
+  pub absent-not-old : (rst : Bool) → isOld t clock Tsval.Absent rst ≡ false
+  unfolding valueBefore
+  absent-not-old rst = old-not Tsval.Absent rst (inr (inr (inl refl)))
 
   -- a TSval 2^31 ticks from TS.Recent is not old
   pub half-way-not-old : (stamp : Stamp) (rst : Bool) → offsetOf (stamp .0) (t .recent .0) ≡ 2 ^ 31

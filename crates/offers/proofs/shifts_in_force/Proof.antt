@@ -30,8 +30,8 @@ returns-2 c = rw (c .before .before .before .own .given .1, c .enum-told2 .given
 returns-3 : tie.Need-returns-3
 unfolding shiftsInForce
 returns-3 c =
-    let told = c .before .before in
-    rw (told .before .before .before .own .given .1, told .peer .given .1, c .at-most-14 .ensures)
+    let both = c .before .before in
+    rw (both .before .before .before .own .given .1, both .peer .given .1, c .at-most-14 .ensures)
 
 pub shifts-in-force-spec : {M : Type 1} → statement M
 shifts-in-force-spec =

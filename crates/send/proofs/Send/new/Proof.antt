@@ -1,4 +1,5 @@
 -- Each way through the code is a case of the flag. Assumes nothing.
+use native.Mathlib.Omega.{arith}
 use borrow.Author.Needs.{needs}
 use Rattle.send.specs.Send.{opened}
 use Rattle.send.proofs.Send.new.Statement.{statement}
@@ -7,16 +8,23 @@ use Rattle.send.proofs.Send.new.Tie as tie
 moved-requires : tie.Need-moved-requires
 moved-requires c κs = search needs
 
+at-most-14-requires : tie.Need-at-most-14-requires
+at-most-14-requires c κs = search needs
+
 cast-window : tie.Need-cast-window
 cast-window c = search needs
 
 returns : tie.Need-returns
 unfolding opened
-returns c = rw (c .before .before .before .before .moved .ensures, c .if1 .taken)
+returns c =
+    let cut = c .before .before .before .before in
+    (rw (cut .before .moved .ensures, cut .at-most-14 .ensures, c .if1 .taken), record { shift-most = omega (arith, cut .at-most-14 .ensures) })
 
 returns-2 : tie.Need-returns-2
 unfolding opened
-returns-2 c = rw (c .before .before .before .before .moved .ensures, c .if1 .left)
+returns-2 c =
+    let cut = c .before .before .before .before in
+    (rw (cut .before .moved .ensures, cut .at-most-14 .ensures, c .if1 .left), record { shift-most = omega (arith, cut .at-most-14 .ensures) })
 
 pub new-spec : {M : Type 1} → statement M
-new-spec = tie.close (tie.spec moved-requires cast-window returns returns-2)
+new-spec = tie.close (tie.spec moved-requires at-most-14-requires cast-window returns returns-2)

@@ -1,0 +1,28 @@
+-- What a test decides, as a fact: of numbers, of two tests together, and of a choice by a test. Assumes nothing.
+use mathlib.Core.Bool.{Bool, true, false, cond, and-eq-true-iff, or-eq-true-iff, false≢true, _&&_, _||_}
+use mathlib.Core.Logic.{Iff·and, Iff·or, Iff·trans, _↔_, _∨₁_}
+use mathlib.Core.Path.{_≡_, refl}
+use Prim.Native.Nat.{ℕ, _<_, _≤_}
+use lib.Dec.{eqb, leb, ltb}
+use borrow.Author.Tests.{eq-eqb, eqb-true, le-leb, leb-true, lt-ltb, ltb-true}
+
+module _ (a b : ℕ) where
+  pub below : ltb a b ≡ true ↔ a < b
+  below = (ltb-true a b, lt-ltb a b)
+
+  pub at-most : leb a b ≡ true ↔ a ≤ b
+  at-most = (leb-true a b, le-leb a b)
+
+  pub equal : eqb a b ≡ true ↔ a ≡ b
+  equal = (eqb-true a b, eq-eqb a b)
+
+module _ {P Q : Type 0} (a b : Bool) (p : a ≡ true ↔ P) (q : b ≡ true ↔ Q) where
+  pub both : (a && b) ≡ true ↔ P × Q
+  both = Iff·trans (and-eq-true-iff a b) (Iff·and p q)
+
+  pub one : (a || b) ≡ true ↔ P ∨₁ Q
+  one = Iff·trans (or-eq-true-iff a b) (Iff·or p q)
+
+pub chosen : {A P : Type 0} (b : Bool) (x y : A) → b ≡ true ↔ P → (P → cond b x y ≡ x) × (¬ P → cond b x y ≡ y)
+chosen true x y p = (λ _. refl, λ n. absurd (n (p .0 refl)))
+chosen false x y p = (λ h. absurd (false≢true (p .1 h)), λ _. refl)
