@@ -9,7 +9,8 @@ use Rattle.receive.specs.Sound.{Sound}
 use Rattle.receive.specs.Taking.{advanced, holding, taken}
 use Rattle.receive.specs.Window.{newPart}
 use Rattle.laws.proofs.Choices.{either}
-use Rattle.receive.proofs.Taken.{advance-within, part-within}
+use Rattle.receive.proofs.Parts.{part-within}
+use Rattle.receive.proofs.Taken.{advance-within}
 
 pub right-edge-stays : (r : Receive) (seq len : ℕ) → Sound r
     → let t = taken r (newPart r seq len) in movedBy (t .nxt .0) (t .window) ≡ movedBy (r .nxt .0) (r .window)

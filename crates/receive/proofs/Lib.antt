@@ -1,7 +1,8 @@
 mod Absorbing
 pub mod Edge
 pub mod Opening
-mod Room
+pub mod Parts
+pub mod Room
 pub mod Slots
 mod Soundness
 pub mod Taken
