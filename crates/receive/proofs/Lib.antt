@@ -1,6 +1,8 @@
 mod Absorbing
+pub mod Coverage
 pub mod Edge
 pub mod Opening
+pub mod Order
 pub mod Parts
 pub mod Room
 pub mod Slots

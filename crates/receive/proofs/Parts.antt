@@ -1,21 +1,40 @@
 -- Which segments are acceptable, and the new part of one: the numbers of the segment that lie in the window. Assumes nothing.
-use mathlib.Core.Bool.{Bool, true, false, cond, not, _&&_, _||_, and-false, or-true}
+use mathlib.Core.Bool.{Bool, true, false, cond, not, _&&_, _||_, and-false, false≢true, or-true}
 use mathlib.Core.Path.{_≡_, refl, sym, ap, _∙_}
 use Prim.Native.Nat.{ℕ, zero, suc, _+_, _-_, _^_, _≤_, _<_, min}
 use native.Mathlib.Decide.{decLe, decLt}
 use native.Mathlib.Omega.{arith}
 use lib.Dec.{eqb, leb, ltb}
-use borrow.Author.Tests.{eq-eqb, eqb-true, le-leb, le-ltb, leb-false, lt-leb, lt-ltb, ltb-false, ltb-true, ne-eqb}
+use borrow.Author.Tests.{eq-eqb, eqb-true, le-leb, le-ltb, leb-false, leb-true, lt-leb, lt-ltb, ltb-false, ltb-true, ne-eqb}
 use Rattle.serial.specs.Serial.{movedBy, offsetOf}
+use Rattle.serial.proofs.Offset.{offset-below, offset-moved, offset-sum}
 use Rattle.receive.specs.declared.Part.{Part}
 use Rattle.receive.specs.declared.Receive.{Receive}
 use Rattle.receive.specs.Ranges.{liesIn}
 use Rattle.receive.specs.Window.{acceptable, emptyPart, finInside, firstOffset, hasNoPart, lastOffset, newPart, partEnd, partStart}
-use Rattle.laws.proofs.Choices.{either, neither}
+use Rattle.laws.proofs.Choices.{both-true, either, neither}
 
 no-window : (w a b : ℕ) → cond (eqb w 0) false (ltb a w || ltb b w) ≡ ltb a w || ltb b w
 no-window zero a b = rw (le-ltb a zero (omega arith), le-ltb b zero (omega arith))
 no-window (suc w) a b = rw (ne-eqb (suc w) 0 (λ e. omega arith))
+
+same-tests : (from to o window past len : ℕ) → (from ≤ o → o < to → (o < window) × (past < len))
+    → (o < window → past < len → (from ≤ o) × (o < to)) → leb from o && ltb o to ≡ ltb o window && ltb past len
+same-tests from to o window past len there back =
+    exactly (leb from o && ltb o to) (ltb o window && ltb past len)
+    (λ t.
+    let h = both-true (leb from o) (ltb o to) t in
+    let g = there (leb-true _ _ (h .0)) (ltb-true _ _ (h .1)) in
+    rw (lt-ltb o window (g .0), lt-ltb past len (g .1)))
+    (λ t.
+    let h = both-true (ltb o window) (ltb past len) t in
+    let g = back (ltb-true _ _ (h .0)) (ltb-true _ _ (h .1)) in
+    rw (le-leb from o (g .0), lt-ltb o to (g .1)))
+  where
+    exactly : (a b : Bool) → (a ≡ true → b ≡ true) → (b ≡ true → a ≡ true) → a ≡ b
+    exactly true b f g = sym (f refl)
+    exactly false true f g = g refl
+    exactly false false f g = refl
 
 -- nothing lies in the empty part
 pub none-lies : (o : ℕ) → liesIn emptyPart o ≡ false
@@ -131,3 +150,53 @@ module _ (r : Receive) (seq len : ℕ) where
             le-ltb last 0 (omega arith),
             lt-leb (r .window) first (omega arith),
           )
+
+  -- where LEN and the window are at most 2^32, a segment that starts in the window does not wrap back into it
+  module _ (short : len + r .window ≤ 2 ^ 32) where
+    last-is : 0 < len → (last ≡ movedBy first (len - 1)) × (first < 2 ^ 32)
+    last-is filled = (
+      sym (offset-sum (r .nxt .0) seq (movedBy seq (len - 1)))
+          ∙ ap (movedBy first) (offset-moved seq (len - 1) (omega arith)),
+      offset-below (r .nxt .0) seq,
+    )
+
+    -- the new part of an acceptable segment is exactly those of its LEN numbers from SEQ on that lie in the window
+    pub part-exactly : acceptable r seq len ≡ true → (x : ℕ)
+        → liesIn (newPart r seq len) (offsetOf (r .nxt .0) x) ≡ ltb (offsetOf (r .nxt .0) x) (r .window) && ltb (offsetOf seq x) len
+    part-exactly accepted x = pick (decLt 0 len) (decLt first (r .window)) (decLt last (r .window))
+      where
+        o : ℕ
+        o = offsetOf (r .nxt .0) x
+
+        past : ℕ
+        past = offsetOf seq x
+
+        to-x : (movedBy first past ≡ o) × (past < 2 ^ 32)
+        to-x = (offset-sum (r .nxt .0) seq x, offset-below seq x)
+
+        pick : Dec (0 < len) → Dec (first < r .window) → Dec (last < r .window)
+            → liesIn (newPart r seq len) o ≡ ltb o (r .window) && ltb past len
+        pick (no none) low high =
+            rw (nothing-sent (omega arith), le-ltb past len (omega arith)) (none-lies o ∙ sym (and-false (ltb o (r .window))))
+        pick (yes filled) (yes low) high =
+            let end = last-is filled in
+            rw (starts-inside filled low (omega arith))
+            (same-tests first (min (last + 1) (r .window)) o (r .window) past len (λ f t. omega (arith, to-x)) (λ w l. omega (arith, to-x)))
+        pick (yes filled) (no low) (yes high) =
+            let end = last-is filled in
+            rw (starts-before filled (omega arith) high)
+            (same-tests 0 (last + 1) o (r .window) past len (λ f t. omega (arith, to-x)) (λ w l. omega (arith, to-x)))
+        pick (yes filled) (no low) (no high) =
+            absurd (false≢true (sym (both-outside filled (omega arith) (omega arith)) ∙ accepted))
+
+    -- FIN lies in it exactly if there is one and its number, the segment's last, is in the window
+    pub fin-exactly : 0 < len → (fin : Bool) → finInside r seq len fin ≡ fin && ltb last (r .window)
+    unfolding finInside
+    fin-exactly filled fin = ap (λ b. fin && b) (pick (decLt last (r .window)) (decLe first last))
+      where
+        pick : Dec (last < r .window) → Dec (first ≤ last) → liesIn (newPart r seq len) last ≡ ltb last (r .window)
+        pick (no high) order = last-outside (omega arith) ∙ sym (le-ltb last (r .window) (omega arith))
+        pick (yes high) (yes order) = last-inside filled high order ∙ sym (lt-ltb last (r .window) high)
+        pick (yes high) (no order) =
+            let end = last-is filled in
+            last-behind filled high (omega arith) ∙ (le-leb (r .window) first (omega arith) ∙ sym (lt-ltb last (r .window) high))

@@ -1,14 +1,14 @@
 -- Verdict 30 exactly; a part joined with the ranges that it meets, and put first where a slot is left, gives the ranges after it. Assumes
 -- nothing.
 use mathlib.Core.Bool.{Bool, true, false, not, _&&_, and-false, true≢false}
-use mathlib.Core.List.{List}
+use mathlib.Core.List.{List, _∷_}
 use mathlib.Core.Logic.{_⊎_, inl, inr, ⊎-map}
 use mathlib.Core.Path.{_≡_, refl, ap}
 use Prim.Native.Nat.{ℕ, _≤_, _<_}
 use native.Mathlib.Omega.{arith}
 use lib.Dec.{eqb, leb, ltb}
 use lib.ListN.{length}
-use borrow.Author.Tests.{eq-eqb, eqb-false, eqb-true, leb-false, lt-leb, lt-ltb, ltb-true, not-true}
+use borrow.Author.Tests.{eq-eqb, eqb-false, eqb-true, le-ltb, leb-false, lt-leb, lt-ltb, ltb-true, not-true}
 use Rattle.serial.specs.declared.Range.{Range}
 use Rattle.receive.specs.declared.Part.{Part}
 use Rattle.laws.specs.Lists.{Each, any}
@@ -22,6 +22,10 @@ use Rattle.receive.proofs.Slots.{first-full, first-room}
 none-any : {A : Type 0} (p : A → Bool) {l : List A} → Each (λ x. p x ≡ false) l → any p l ≡ false
 none-any p none = refl
 none-any p (more h e) = rw h (none-any p e)
+
+pub none-out-of-order : (p : Part) → p .to ≤ p .from → isOutOfOrder p ≡ false
+unfolding isOutOfOrder
+none-out-of-order p order = rw (le-ltb (p .from) (p .to) order) (and-false (ltb 0 (p .from)))
 
 module _ (nxt : ℕ) (p : Part) (l : List Range) where
   pub unmet-most : length (unmet nxt p l) ≤ length l
@@ -93,7 +97,12 @@ module _ (nxt : ℕ) (p : Part) (l : List Range) where
   unfolding rangesAfter
   full-leaves full = rw (full, and-false (isOutOfOrder p))
 
-  -- a part that is empty or starts at 0 leaves the ranges
+  -- where there is room, a part that is not empty and does not start at 0 is put first
+  pub joins-first : 0 < p .from → p .from < p .to → noRoom nxt p l ≡ false → rangesAfter nxt p l ≡ rangeOf nxt (joined nxt p l) ∷ unmet nxt p l
+  unfolding rangesAfter isOutOfOrder
+  joins-first later filled free = rw (lt-ltb 0 (p .from) later, lt-ltb (p .from) (p .to) filled, free)
+
+  -- one that is empty or starts at 0 leaves the ranges
   pub near-leaves : isOutOfOrder p ≡ false → rangesAfter nxt p l ≡ l
   unfolding rangesAfter
   near-leaves near = rw near

@@ -21,7 +21,7 @@ use Rattle.receive.specs.Internal.{movedOn}
 use Rattle.laws.proofs.Choices.{both-true, either}
 use Rattle.laws.proofs.Lists.{each-map, filter-none, filter-others}
 use Rattle.receive.proofs.Parts.{not-acceptable, nothing-sent, part-within}
-use Rattle.receive.proofs.Room.{full-leaves, near-leaves, no-room-full, room}
+use Rattle.receive.proofs.Room.{full-leaves, near-leaves, no-room-full, none-out-of-order, room}
 use Rattle.receive.proofs.Slots.{canonical-held, none-held, ranges-held}
 use Rattle.receive.proofs.Soundness.{advanced-sound, joined-sound, joined-within}
 
@@ -127,10 +127,6 @@ taken-sound r seq len s = part-taken-sound r s (newPart r seq len) (part-within 
 pub acknowledged-sound : (r : Receive) → Sound r → Sound (acknowledged r)
 acknowledged-sound r s =
     record { nxt-below = s .nxt-below; shift-most = s .shift-most; window-most = s .window-most; canonical = s .canonical; ranges = s .ranges }
-
-none-out-of-order : (p : Part) → p .to ≤ p .from → isOutOfOrder p ≡ false
-unfolding isOutOfOrder
-none-out-of-order p none = rw (le-ltb (p .from) (p .to) none) (and-false (ltb 0 (p .from)))
 
 -- a part that changes nothing
 module _ (r : Receive) (s : Sound r) (p : Part) where
