@@ -7,7 +7,7 @@ use Prim.Native.Nat.{ℕ, _+_, _-_, _^_, _≤_, _<_, min, max}
 use native.Mathlib.Decide.{decLe, decLt}
 use native.Mathlib.Omega.{arith}
 use lib.Dec.{eqb, leb, ltb}
-use borrow.Author.Tests.{eqb-false, eqb-true, le-leb, le-ltb, leb-true, lt-leb, lt-ltb, ltb-false, ltb-true}
+use borrow.Author.Tests.{eqb-false, eqb-true, le-leb, le-ltb, leb-true, lt-leb, lt-ltb, ltb-true}
 use Rattle.laws.specs.Lists.{Each, any}
 use Rattle.laws.specs.Lists.Each.{none, more}
 use Rattle.laws.proofs.Choices.{both-true, either, or-right}
@@ -17,7 +17,7 @@ use Rattle.serial.proofs.Offset.{offset-around, offset-below, offset-between, o
 use Rattle.receive.specs.declared.Part.{Part}
 use Rattle.receive.specs.declared.Receive.{Receive}
 use Rattle.receive.specs.Coverage.{isHeld, isIn, isReceived}
-use Rattle.receive.specs.Ranges.{greatest, isOutOfOrder, joined, least, leftOf, liesIn, meets, met, noRoom, rangeOf, rangesAfter, rangesOf, rightOf, unmet}
+use Rattle.receive.specs.Ranges.{greatest, joined, least, leftOf, liesIn, meets, met, noRoom, rangeOf, rangesAfter, rangesOf, rightOf, unmet}
 use Rattle.receive.specs.Sound.{Inside, Sound}
 use Rattle.receive.specs.Taking.{advance, advanced, holding, taken}
 use Rattle.receive.specs.Window.{acceptable, lacksRoom, newPart}

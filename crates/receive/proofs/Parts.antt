@@ -5,14 +5,14 @@ use Prim.Native.Nat.{ℕ, zero, suc, _+_, _-_, _^_, _≤_, _<_, min}
 use native.Mathlib.Decide.{decLe, decLt}
 use native.Mathlib.Omega.{arith}
 use lib.Dec.{eqb, leb, ltb}
-use borrow.Author.Tests.{eq-eqb, eqb-true, le-leb, le-ltb, leb-false, leb-true, lt-leb, lt-ltb, ltb-false, ltb-true, ne-eqb}
+use borrow.Author.Tests.{eq-eqb, le-leb, le-ltb, leb-false, leb-true, lt-leb, lt-ltb, ltb-true, ne-eqb}
 use Rattle.serial.specs.Serial.{movedBy, offsetOf}
 use Rattle.serial.proofs.Offset.{offset-below, offset-moved, offset-sum}
 use Rattle.receive.specs.declared.Part.{Part}
 use Rattle.receive.specs.declared.Receive.{Receive}
 use Rattle.receive.specs.Ranges.{liesIn}
 use Rattle.receive.specs.Window.{acceptable, emptyPart, finInside, firstOffset, hasNoPart, lastOffset, newPart, partEnd, partStart}
-use Rattle.laws.proofs.Choices.{both-true, either, neither}
+use Rattle.laws.proofs.Choices.{both-true, either, neither, or-left, or-right}
 
 no-window : (w a b : ℕ) → cond (eqb w 0) false (ltb a w || ltb b w) ≡ ltb a w || ltb b w
 no-window zero a b = rw (le-ltb a zero (omega arith), le-ltb b zero (omega arith))
@@ -76,32 +76,44 @@ module _ (r : Receive) (seq len : ℕ) where
   unfolding newPart
   not-acceptable outside = rw (outside, or-true (eqb len 0))
 
+  start-inside : first < r .window → partStart r seq ≡ first
+  start-inside low = rw (lt-ltb first (r .window) low)
+
+  start-outside : r .window ≤ first → partStart r seq ≡ 0
+  start-outside low = rw (le-ltb first (r .window) low)
+
   module _ (filled : 0 < len) where
+    ordered : acceptable r seq len ≡ true → partStart r seq < partEnd r seq len
+        → newPart r seq len ≡ record { from = partStart r seq; to = partEnd r seq len }
+    unfolding newPart
+    ordered accepted order =
+        rw (ne-eqb len 0 (λ e. omega arith), accepted, lt-leb (partEnd r seq len) (partStart r seq) order)
+
+    first-accepts : first < r .window → acceptable r seq len ≡ true
+    first-accepts low = accepts-ends filled ∙ or-left (ltb first (r .window)) (ltb last (r .window)) (lt-ltb first (r .window) low)
+
     -- from o(SEQ)
     pub starts-inside : first < r .window → first ≤ last → newPart r seq len ≡ record { from = first; to = min (last + 1) (r .window) }
-    unfolding newPart
     starts-inside low order =
-        rw (ne-eqb len 0 (λ e. omega arith), accepts-ends filled, lt-ltb first (r .window) low, lt-leb (min (last + 1) (r .window)) first (omega arith))
+        ordered (first-accepts low) (omega (arith, start-inside low))
+        ∙ (λ i. record { from = start-inside low i; to = partEnd r seq len })
 
     -- none if it would end at or before its start
     pub ends-first : first < r .window → last < first → newPart r seq len ≡ emptyPart
     unfolding newPart
     ends-first low order =
-        rw (ne-eqb len 0 (λ e. omega arith), accepts-ends filled, lt-ltb first (r .window) low, le-leb (min (last + 1) (r .window)) first (omega arith))
+        rw (
+          le-leb (partEnd r seq len) (partStart r seq) (omega (arith, start-inside low)),
+          or-true (not (acceptable r seq len)),
+          or-true (eqb len 0),
+        )
 
     -- from 0
     pub starts-before : r .window ≤ first → last < r .window → newPart r seq len ≡ record { from = 0; to = last + 1 }
-    unfolding newPart
     starts-before low high =
-        let end : min (last + 1) (r .window) ≡ last + 1 = omega arith in
-        rw (
-          ne-eqb len 0 (λ e. omega arith),
-          accepts-ends filled,
-          le-ltb first (r .window) low,
-          lt-ltb last (r .window) high,
-          end,
-          lt-leb (last + 1) 0 (omega arith),
-        )
+        let end : partEnd r seq len ≡ last + 1 = omega arith in
+        ordered (accepts-ends filled ∙ or-right (ltb first (r .window)) (ltb last (r .window)) (lt-ltb last (r .window) high)) (omega (arith, start-outside low))
+        ∙ (λ i. record { from = start-outside low i; to = end i })
 
     pub outside : r .window ≤ first → r .window ≤ last → newPart r seq len ≡ emptyPart
     outside low high = not-acceptable (both-outside filled low high)

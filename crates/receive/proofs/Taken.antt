@@ -1,5 +1,5 @@
 -- Taking a new part, and writing an acknowledgment, leave a sound receive side; an empty part leaves it as it was. Assumes nothing.
-use mathlib.Core.Bool.{Bool, true, false, cond, not, _&&_, and-false}
+use mathlib.Core.Bool.{Bool, true, false, cond, not, _&&_}
 use mathlib.Core.List.{List, _∷_}
 use mathlib.Core.Path.{_≡_, refl, ap, _∙_}
 use Prim.Native.Nat.{ℕ, _+_, _-_, _%_, _^_, _≤_, _<_}
@@ -7,7 +7,7 @@ use native.Mathlib.Nat.{mul-le-mul-left}
 use native.Mathlib.Omega.{arith}
 use lib.Dec.{eqb, ltb}
 use lib.Pow.{pow-mono}
-use borrow.Author.Tests.{eq-eqb, eqb-false, eqb-true, le-ltb, lt-leb, ltb-true, ne-eqb}
+use borrow.Author.Tests.{eq-eqb, eqb-false, eqb-true, lt-leb, ltb-true, ne-eqb}
 use Rattle.serial.specs.declared.Range.{Range}
 use Rattle.receive.specs.declared.Held.{Held}
 use Rattle.receive.specs.declared.Part.{Part}

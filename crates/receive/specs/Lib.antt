@@ -4,4 +4,3 @@ pub mod Taking
 pub mod Sound
 pub mod Coverage
 pub mod Internal
-pub mod Vectors
