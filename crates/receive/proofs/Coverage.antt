@@ -49,10 +49,10 @@ module _ (from to o : ℕ) where
       pick (no low) = beyond (omega arith)
 
 -- two spans that overlap or touch are one
-union : (a b c d o : ℕ) → a ≤ d → c ≤ b → span (min a c) (max b d) o ≡ span a b o || span c d o
-union a b c d o left right = pick (decLt o (min a c)) (decLt o (max b d)) (decLe a o) (decLt o b)
+union : (a b c d from to o : ℕ) → a ≤ d → c ≤ b → from ≡ min a c → to ≡ max b d → span from to o ≡ span a b o || span c d o
+union a b c d from to o left right least-is greatest-is = pick (decLt o from) (decLt o to) (decLe a o) (decLt o b)
   where
-    pick : Dec (o < min a c) → Dec (o < max b d) → Dec (a ≤ o) → Dec (o < b) → span (min a c) (max b d) o ≡ span a b o || span c d o
+    pick : Dec (o < from) → Dec (o < to) → Dec (a ≤ o) → Dec (o < b) → span from to o ≡ span a b o || span c d o
     pick (yes low) h f t = below _ _ o low ∙ sym (rw (below a b o (omega arith)) (below c d o (omega arith)))
     pick (no low) (no high) f t = beyond _ _ o (omega arith) ∙ sym (rw (beyond a b o (omega arith)) (beyond c d o (omega arith)))
     pick (no low) (yes high) (yes f) (yes t) = between _ _ o (omega arith) high ∙ sym (rw (between a b o f t))
@@ -119,8 +119,9 @@ module _ (nxt x : ℕ) where
             let from : ℕ = least nxt (p .from) (met nxt p l) in
             let to : ℕ = greatest nxt (p .to) (met nxt p l) in
             ap (λ s. any (isIn x) (unmet nxt p l) || s)
-            (union (leftOf nxt r) (rightOf nxt r) from to o (omega (arith, greatest-least nxt (p .to) (met nxt p l)))
-            (omega (arith, least-most nxt (p .from) (met nxt p l))))
+            (union (leftOf nxt r) (rightOf nxt r) from to (least nxt (p .from) (r ∷ met nxt p l)) (greatest nxt (p .to) (r ∷ met nxt p l)) o
+            (omega (arith, greatest-least nxt (p .to) (met nxt p l))) (omega (arith, least-most nxt (p .from) (met nxt p l)))
+            (omega arith) (omega (arith, greatest-least nxt (p .to) (met nxt p l))))
             ∙ (regroup (any (isIn x) (unmet nxt p l)) (span (leftOf nxt r) (rightOf nxt r) o) (span from to o)
             ∙ (ap (λ s. s || (any (isIn x) (unmet nxt p l) || span from to o)) (sym (in-span r (i .filled)))
             ∙ (ap (λ s. isIn x r || s) later ∙ sym (or-assoc (isIn x r) (any (isIn x) l) (liesIn p o)))))

@@ -1,5 +1,5 @@
 -- Which segments are acceptable, and the new part of one: the numbers of the segment that lie in the window. Assumes nothing.
-use mathlib.Core.Bool.{Bool, true, false, cond, not, _&&_, _||_, and-false, false≢true, or-true}
+use mathlib.Core.Bool.{Bool, true, false, cond, not, _&&_, _||_, and-false, false≢true}
 use mathlib.Core.Path.{_≡_, refl, sym, ap, _∙_}
 use Prim.Native.Nat.{ℕ, zero, suc, _+_, _-_, _^_, _≤_, _<_, min}
 use native.Mathlib.Decide.{decLe, decLt}
@@ -67,14 +67,33 @@ module _ (r : Receive) (seq len : ℕ) where
       pick true = rw (eq-eqb (r .window) 0 none)
       pick false = rw (eq-eqb (r .window) 0 none)
 
-  -- the cases of the new part: none of LEN 0, nor of a segment that is not acceptable
-  pub nothing-sent : len ≡ 0 → newPart r seq len ≡ emptyPart
+  -- a part lies in the window, and ends no earlier than it starts
+  pub part-within : newPart r seq len .to ≤ r .window
   unfolding newPart
-  nothing-sent none = rw (eq-eqb len 0 none)
+  part-within = either (λ (p : Part). p .to ≤ r .window) (hasNoPart r seq len) _ _ (λ _. omega arith) (λ _. omega arith)
+
+  pub part-ordered : newPart r seq len .from ≤ newPart r seq len .to
+  unfolding newPart
+  part-ordered =
+      either (λ (p : Part). p .from ≤ p .to) (hasNoPart r seq len) _ _ (λ _. omega arith)
+      (λ some.
+      let tests = neither (not (acceptable r seq len)) (leb (partEnd r seq len) (partStart r seq)) (neither (eqb len 0) _ some .1) in
+      omega (arith, leb-false (partEnd r seq len) (partStart r seq) (tests .1)))
+
+  -- the cases of the new part: none of LEN 0, nor of a segment that is not acceptable
+  no-part : hasNoPart r seq len ≡ true → newPart r seq len ≡ emptyPart
+  unfolding newPart
+  no-part none = rw none
+
+  pub nothing-sent : len ≡ 0 → newPart r seq len ≡ emptyPart
+  nothing-sent none = no-part (or-left (eqb len 0) _ (eq-eqb len 0 none))
+
+  abbrev isTooShort : Bool
+  isTooShort = leb (partEnd r seq len) (partStart r seq)
 
   pub not-acceptable : acceptable r seq len ≡ false → newPart r seq len ≡ emptyPart
-  unfolding newPart
-  not-acceptable outside = rw (outside, or-true (eqb len 0))
+  not-acceptable outside =
+      no-part (or-right (eqb len 0) (not (acceptable r seq len) || isTooShort) (or-left (not (acceptable r seq len)) isTooShort (ap not outside)))
 
   start-inside : first < r .window → partStart r seq ≡ first
   start-inside low = rw (lt-ltb first (r .window) low)
@@ -100,13 +119,10 @@ module _ (r : Receive) (seq len : ℕ) where
 
     -- none if it would end at or before its start
     pub ends-first : first < r .window → last < first → newPart r seq len ≡ emptyPart
-    unfolding newPart
     ends-first low order =
-        rw (
-          le-leb (partEnd r seq len) (partStart r seq) (omega (arith, start-inside low)),
-          or-true (not (acceptable r seq len)),
-          or-true (eqb len 0),
-        )
+        no-part
+        (or-right (eqb len 0) (not (acceptable r seq len) || isTooShort)
+        (or-right (not (acceptable r seq len)) isTooShort (le-leb (partEnd r seq len) (partStart r seq) (omega (arith, start-inside low)))))
 
     -- from 0
     pub starts-before : r .window ≤ first → last < r .window → newPart r seq len ≡ record { from = 0; to = last + 1 }
@@ -117,19 +133,6 @@ module _ (r : Receive) (seq len : ℕ) where
 
     pub outside : r .window ≤ first → r .window ≤ last → newPart r seq len ≡ emptyPart
     outside low high = not-acceptable (both-outside filled low high)
-
-  -- a part lies in the window, and ends no earlier than it starts
-  pub part-within : newPart r seq len .to ≤ r .window
-  unfolding newPart
-  part-within = either (λ (p : Part). p .to ≤ r .window) (hasNoPart r seq len) _ _ (λ _. omega arith) (λ _. omega arith)
-
-  pub part-ordered : newPart r seq len .from ≤ newPart r seq len .to
-  unfolding newPart
-  part-ordered =
-      either (λ (p : Part). p .from ≤ p .to) (hasNoPart r seq len) _ _ (λ _. omega arith)
-      (λ some.
-      let tests = neither (not (acceptable r seq len)) (leb (partEnd r seq len) (partStart r seq)) (neither (eqb len 0) _ some .1) in
-      omega (arith, leb-false (partEnd r seq len) (partStart r seq) (tests .1)))
 
   -- the segment's last number, and its new part
   pub last-outside : r .window ≤ last → liesIn (newPart r seq len) last ≡ false

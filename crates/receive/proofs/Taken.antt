@@ -1,8 +1,8 @@
 -- Taking a new part, and writing an acknowledgment, leave a sound receive side; an empty part leaves it as it was. Assumes nothing.
 use mathlib.Core.Bool.{Bool, true, false, cond, not, _&&_}
 use mathlib.Core.List.{List, _∷_}
-use mathlib.Core.Path.{_≡_, refl, ap, _∙_}
-use Prim.Native.Nat.{ℕ, _+_, _-_, _%_, _^_, _≤_, _<_}
+use mathlib.Core.Path.{_≡_, refl, sym, ap, _∙_}
+use Prim.Native.Nat.{ℕ, _^_, _≤_, _<_}
 use native.Mathlib.Nat.{mul-le-mul-left}
 use native.Mathlib.Omega.{arith}
 use lib.Dec.{eqb, ltb}
@@ -106,16 +106,31 @@ module _ (r : Receive) (s : Sound r) where
   -- an advance to 0 changes nothing
   advanced-none : (p : Part) → p .to ≡ 0 → advanced r p ≡ r
   unfolding advanced joined meets
-  advanced-none p none =
-      let nxt : (r .nxt .0 + p .to) % 2 ^ 32 ≡ r .nxt .0 = omega (arith, s .nxt-below) in
-      let window : r .window - p .to ≡ r .window = omega arith in
-      rw (filter-none (meets (r .nxt .0) p) clear, filter-others (meets (r .nxt .0) p) clear, nxt, window, ← s .canonical .form)
+  advanced-none p none = λ i. record {
+    nxt = record { 0 = nxt-is i };
+    window = window-is i;
+    shift = r .shift;
+    acked = r .acked;
+    held = held-is i;
+  }
     where
       above : (x : Range) → 0 < leftOf (r .nxt .0) x → meets (r .nxt .0) p x ≡ false
       above x h = rw (lt-leb (leftOf (r .nxt .0) x) (p .to) (omega arith))
 
       clear : Each (λ x. meets (r .nxt .0) p x ≡ false) (rangesOf (r .held))
       clear = each-map (λ x i. above x (i .above)) (s .ranges .inside)
+
+      advance-is : advance r p ≡ 0
+      advance-is = rw (filter-none (meets (r .nxt .0) p) clear) none
+
+      nxt-is : advanced r p .nxt .0 ≡ r .nxt .0
+      nxt-is = omega (arith, advance-is, s .nxt-below)
+
+      window-is : advanced r p .window ≡ r .window
+      window-is = omega (arith, advance-is)
+
+      held-is : advanced r p .held ≡ r .held
+      held-is = ap heldOf (filter-others (meets (r .nxt .0) p) clear) ∙ sym (s .canonical .form)
 
   pub holding-near : (p : Part) → isOutOfOrder p ≡ false → holding r p ≡ r
   unfolding holding
