@@ -1,5 +1,5 @@
 -- The right window edge stays where RCV.NXT advances: the window loses as much as RCV.NXT gains. Nor does a take change the shift or
--- Last.ACK.sent. Assumes nothing.
+-- Last.ACK.sent, and writing an acknowledgment sets that alone. Assumes nothing.
 use mathlib.Core.Path.{_≡_, refl}
 use Prim.Native.Nat.{ℕ, _+_, _≤_}
 use native.Mathlib.Omega.{arith}
@@ -9,7 +9,7 @@ use Rattle.serial.proofs.Offset.{offset-moved, offset-self}
 use Rattle.receive.specs.declared.Part.{Part}
 use Rattle.receive.specs.declared.Receive.{Receive}
 use Rattle.receive.specs.Sound.{Sound}
-use Rattle.receive.specs.Taking.{advance, advanced, holding, taken}
+use Rattle.receive.specs.Taking.{acknowledged, advance, advanced, holding, taken}
 use Rattle.receive.specs.Window.{newPart}
 use Rattle.laws.proofs.Choices.{either}
 use Rattle.receive.proofs.Parts.{part-within}
@@ -41,3 +41,14 @@ module _ (r : Receive) (p : Part) where
   pub acked-stays : taken r p .acked ≡ r .acked
   unfolding taken advanced holding
   acked-stays = either (λ t. t .acked ≡ r .acked) (eqb (p .from) 0) (advanced r p) (holding r p) (λ _. refl) (λ _. refl)
+
+-- writing an acknowledgment sets Last.ACK.sent to RCV.NXT, and changes nothing else
+pub record Acknowledges (r t : Receive) : Type 0 where
+  pub acked-is : t .acked ≡ r .nxt
+  pub nxt-stays : t .nxt ≡ r .nxt
+  pub window-stays : t .window ≡ r .window
+  pub shift-same : t .shift ≡ r .shift
+  pub held-stays : t .held ≡ r .held
+
+pub acknowledged-only : (r : Receive) → Acknowledges r (acknowledged r)
+acknowledged-only r = record { acked-is = refl; nxt-stays = refl; window-stays = refl; shift-same = refl; held-stays = refl }

@@ -13,12 +13,12 @@ use Rattle.receive.specs.declared.Receive.{Receive}
 use Rattle.receive.specs.Coverage.{isIn}
 use Rattle.receive.specs.Ranges.{joined, liesIn, meets, noRoom, rangeOf, rangesAfter, rangesOf, unmet}
 use Rattle.receive.specs.Sound.{Sound}
-use Rattle.receive.specs.Taking.{holding, taken}
+use Rattle.receive.specs.Taking.{advanced, holding, taken}
 use Rattle.laws.proofs.Choices.{either}
 use Rattle.receive.proofs.Coverage.{part-joined}
 use Rattle.receive.proofs.Room.{joins-first}
 use Rattle.receive.proofs.Slots.{ranges-held}
-use Rattle.receive.proofs.Taken.{taken-later}
+use Rattle.receive.proofs.Taken.{taken-first, taken-later}
 
 -- some of a list, in their order
 pub data Among {A : Type 0} : List A → List A → Type 0 where
@@ -31,6 +31,12 @@ filter-among p [] = no-more
 filter-among p (x ∷ xs) = either (λ l. Among l (x ∷ xs)) (p x) _ _ (λ _. kept (filter-among p xs)) (λ _. passed (filter-among p xs))
 
 module _ (r : Receive) (p : Part) where
+  -- where RCV.NXT advances, the ranges that do not leave keep their order
+  pub others-stay : p .from ≡ 0 → Among (rangesOf (taken r p .held)) (rangesOf (r .held))
+  unfolding advanced
+  others-stay zero =
+      rw (taken-first r p zero, ranges-held) (filter-among (λ x. not (meets (r .nxt .0) p x)) (rangesOf (r .held)))
+
   pub record PutFirst (t : Receive) : Type 0 where
     pub first : Range
     pub rest : List Range
