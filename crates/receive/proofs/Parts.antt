@@ -56,16 +56,19 @@ module _ (r : Receive) (seq len : ℕ) where
   pub both-outside : 0 < len → r .window ≤ first → r .window ≤ last → acceptable r seq len ≡ false
   both-outside filled low high = accepts-ends filled ∙ rw (le-ltb first (r .window) low, le-ltb last (r .window) high)
 
+  -- LEN 0, window above 0
+  pub accepts-bare : len ≡ 0 → 0 < r .window → acceptable r seq len ≡ ltb first (r .window)
+  unfolding acceptable
+  accepts-bare none above = rw (eq-eqb len 0 none, ne-eqb (r .window) 0 (λ e. omega arith))
+
   -- window 0 accepts only LEN 0 at RCV.NXT
   pub zero-window : r .window ≡ 0 → acceptable r seq len ≡ eqb len 0 && eqb seq (r .nxt .0)
   unfolding acceptable
-  zero-window none = pick (eqb len 0)
+  zero-window none = rw (eq-eqb (r .window) 0 none) (pick (eqb len 0) (eqb seq (r .nxt .0)))
     where
-      pick : (b : Bool)
-          → cond b (cond (eqb (r .window) 0) (eqb seq (r .nxt .0)) (ltb first (r .window))) (cond (eqb (r .window) 0) false (ltb first (r .window) || ltb last (r .window)))
-          ≡ b && eqb seq (r .nxt .0)
-      pick true = rw (eq-eqb (r .window) 0 none)
-      pick false = rw (eq-eqb (r .window) 0 none)
+      pick : (b at-next : Bool) → cond b at-next false ≡ b && at-next
+      pick true at-next = refl
+      pick false at-next = refl
 
   -- a part lies in the window, and ends no earlier than it starts
   pub part-within : newPart r seq len .to ≤ r .window
@@ -127,8 +130,9 @@ module _ (r : Receive) (seq len : ℕ) where
     -- from 0
     pub starts-before : r .window ≤ first → last < r .window → newPart r seq len ≡ record { from = 0; to = last + 1 }
     starts-before low high =
+        let accepted = accepts-ends filled ∙ or-right (ltb first (r .window)) (ltb last (r .window)) (lt-ltb last (r .window) high) in
         let end : partEnd r seq len ≡ last + 1 = omega arith in
-        ordered (accepts-ends filled ∙ or-right (ltb first (r .window)) (ltb last (r .window)) (lt-ltb last (r .window) high)) (omega (arith, start-outside low))
+        ordered accepted (omega (arith, start-outside low))
         ∙ (λ i. record { from = start-outside low i; to = end i })
 
     pub outside : r .window ≤ first → r .window ≤ last → newPart r seq len ≡ emptyPart
@@ -158,13 +162,7 @@ module _ (r : Receive) (seq len : ℕ) where
             lt-ltb last (last + 1) (omega arith),
             le-leb (r .window) first low,
           )
-      pick (no low) =
-          rw (
-            ends-first filled (omega arith) order,
-            le-leb 0 last (omega arith),
-            le-ltb last 0 (omega arith),
-            lt-leb (r .window) first (omega arith),
-          )
+      pick (no low) = rw (ends-first filled (omega arith) order, lt-leb (r .window) first (omega arith)) (none-lies last)
 
   -- where LEN and the window are at most 2^32, a segment that starts in the window does not wrap back into it
   module _ (short : len + r .window ≤ 2 ^ 32) where

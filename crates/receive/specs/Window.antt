@@ -45,12 +45,13 @@ partStart r seq = cond (ltb (firstOffset r seq) (r .window)) (firstOffset r seq)
 abbrev pub partEnd : Receive → ℕ → ℕ → ℕ
 partEnd r seq len = min (lastOffset r seq len + 1) (r .window)
 
--- the empty part, at offset 0: of LEN 0, of a segment that is not acceptable, and where the end would lie at or before the start
-abbrev pub emptyPart : Part
-emptyPart = record { from = 0; to = 0 }
-
+-- what has an empty part: LEN 0, a segment that is not acceptable, and one whose part would end at or before its start
 abbrev pub hasNoPart : Receive → ℕ → ℕ → Bool
 hasNoPart r seq len = eqb len 0 || (not (acceptable r seq len) || leb (partEnd r seq len) (partStart r seq))
+
+-- which is at offset 0
+abbrev pub emptyPart : Part
+emptyPart = record { from = 0; to = 0 }
 
 -- document 01's "new part", as offsets from RCV.NXT
 unfoldable pub newPart : Receive → ℕ → ℕ → Part
