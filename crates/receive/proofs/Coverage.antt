@@ -2,6 +2,7 @@
 -- Assumes nothing.
 use mathlib.Core.Bool.{Bool, true, false, cond, not, _&&_, _||_, and-false, false≢true, or-assoc, or-comm, or-false}
 use mathlib.Core.List.{List, _∷_}
+use mathlib.Core.Logic.{⊎-elim}
 use mathlib.Core.Path.{_≡_, refl, sym, ap, _∙_}
 use Prim.Native.Nat.{ℕ, _+_, _-_, _^_, _≤_, _<_, min, max}
 use native.Mathlib.Decide.{decLe, decLt}
@@ -10,7 +11,7 @@ use lib.Dec.{eqb, leb, ltb}
 use borrow.Author.Tests.{eqb-false, eqb-true, le-leb, le-ltb, leb-true, lt-leb, lt-ltb, ltb-true}
 use Rattle.laws.specs.Lists.{Each, any}
 use Rattle.laws.specs.Lists.Each.{none, more}
-use Rattle.laws.proofs.Choices.{both-true, either, or-right}
+use Rattle.laws.proofs.Choices.{both-true, either, either-true, or-right}
 use Rattle.serial.specs.Serial.{offsetOf}
 use Rattle.serial.specs.declared.Range.{Range}
 use Rattle.serial.proofs.Offset.{offset-around, offset-below, offset-between, offset-moved, offset-self}
@@ -110,7 +111,9 @@ module _ (nxt x : ℕ) where
         pick : (b : Bool) → meets nxt p r ≡ b
             → any (isIn x) (unmet nxt p l) || span (joined nxt p l .from) (joined nxt p l .to) o ≡ any (isIn x) l || liesIn p o
             → any (isIn x) (cond (not b) (r ∷ unmet nxt p l) (unmet nxt p l))
-            || span (least nxt (p .from) (cond b (r ∷ met nxt p l) (met nxt p l))) (greatest nxt (p .to) (cond b (r ∷ met nxt p l) (met nxt p l))) o
+            || span (least nxt (p .from) (cond b (r ∷ met nxt p l) (met nxt p l)))
+            (greatest nxt (p .to) (cond b (r ∷ met nxt p l) (met nxt p l)))
+            o
             ≡ isIn x r || any (isIn x) l || liesIn p o
         pick true b later =
             let tests = both-true (leb (leftOf nxt r) (p .to)) (leb (p .from) (rightOf nxt r)) b in
@@ -131,19 +134,17 @@ module _ (nxt x : ℕ) where
 held-span : {nxt window : ℕ} {l : List Range} (x : ℕ) → Each (Inside nxt window) l → any (isIn x) l ≡ true
     → (0 < offsetOf nxt x) × (offsetOf nxt x < window)
 held-span x none t = absurd (false≢true t)
-held-span {nxt} {window} x (more {x = r} {xs = l} i e) t = pick (isIn x r) refl t (held-span x e)
+held-span {nxt} {window} x (more {x = r} {xs = l} i e) t = ⊎-elim here (held-span x e) (either-true (isIn x r) (any (isIn x) l) t)
   where
-    pick : (b : Bool) → isIn x r ≡ b → b || any (isIn x) l ≡ true
-        → (any (isIn x) l ≡ true → (0 < offsetOf nxt x) × (offsetOf nxt x < window)) → (0 < offsetOf nxt x) × (offsetOf nxt x < window)
-    pick true here t later =
-        let tests =
-        both-true (leb (leftOf nxt r) (offsetOf nxt x)) (ltb (offsetOf nxt x) (rightOf nxt r)) (sym (in-span nxt x r (i .filled)) ∙ here) in
+    here : isIn x r ≡ true → (0 < offsetOf nxt x) × (offsetOf nxt x < window)
+    here t =
+        let tests = both-true (leb (leftOf nxt r) (offsetOf nxt x)) (ltb (offsetOf nxt x) (rightOf nxt r)) (sym (in-span nxt x r (i .filled)) ∙ t) in
         let low : leftOf nxt r ≤ offsetOf nxt x = leb-true _ _ (tests .0) in
         let high : offsetOf nxt x < rightOf nxt r = ltb-true _ _ (tests .1) in
         omega arith
-    pick false here t later = later t
 
-pub held-inside : (r : Receive) → Sound r → (x : ℕ) → isHeld r x ≡ true → (0 < offsetOf (r .nxt .0) x) × (offsetOf (r .nxt .0) x < r .window)
+pub held-inside : (r : Receive) → Sound r → (x : ℕ) → isHeld r x ≡ true
+    → (0 < offsetOf (r .nxt .0) x) × (offsetOf (r .nxt .0) x < r .window)
 held-inside r s x t = held-span x (s .ranges .inside) t
 
 pub held-received : (base : ℕ) (r : Receive) (x : ℕ) → isHeld r x ≡ true → isReceived base r x ≡ true

@@ -98,7 +98,8 @@ module _ (nxt : ℕ) (p : Part) (l : List Range) where
   full-leaves full = rw (full, and-false (isOutOfOrder p))
 
   -- where there is room, a part that is not empty and does not start at 0 is put first
-  pub joins-first : 0 < p .from → p .from < p .to → noRoom nxt p l ≡ false → rangesAfter nxt p l ≡ rangeOf nxt (joined nxt p l) ∷ unmet nxt p l
+  pub joins-first : 0 < p .from → p .from < p .to → noRoom nxt p l ≡ false
+      → rangesAfter nxt p l ≡ rangeOf nxt (joined nxt p l) ∷ unmet nxt p l
   unfolding rangesAfter isOutOfOrder
   joins-first later filled free = rw (lt-ltb 0 (p .from) later, lt-ltb (p .from) (p .to) filled, free)
 
