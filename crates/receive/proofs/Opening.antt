@@ -47,14 +47,14 @@ opened-within nxt window shift small most =
 
 module _ (r : Receive) (window : ℕ) where
   -- E13 exactly: a new window below the present one, or above 65,535 x 2^rcv shift
+  not-e13 : r .window ≤ window → window ≤ 65535 * 2 ^ (r .shift) → isWindowRefused r window ≡ false
+  unfolding isWindowRefused
+  not-e13 low high = rw (le-ltb window (r .window) low) (le-ltb (65535 * 2 ^ (r .shift)) window high)
+
   e13 : (window < r .window) ⊎ (65535 * 2 ^ (r .shift) < window) → isWindowRefused r window ≡ true
   unfolding isWindowRefused
   e13 (inl small) = or-left (ltb window (r .window)) _ (lt-ltb window (r .window) small)
   e13 (inr large) = or-right (ltb window (r .window)) _ (lt-ltb (65535 * 2 ^ (r .shift)) window large)
-
-  not-e13 : r .window ≤ window → window ≤ 65535 * 2 ^ (r .shift) → isWindowRefused r window ≡ false
-  unfolding isWindowRefused
-  not-e13 low high = rw (le-ltb window (r .window) low) (le-ltb (65535 * 2 ^ (r .shift)) window high)
 
   pub window-refusal-leaves : isWindowRefused r window ≡ true → windowOpened r window ≡ record { number = 13; receive = r }
   unfolding windowOpened

@@ -70,18 +70,10 @@ module _ (r : Receive) (seq len : ℕ) where
       pick true at-next = refl
       pick false at-next = refl
 
-  -- a part lies in the window, and ends no earlier than it starts
+  -- every part lies in the window
   pub part-within : newPart r seq len .to ≤ r .window
   unfolding newPart
   part-within = either (λ (p : Part). p .to ≤ r .window) (hasNoPart r seq len) _ _ (λ _. omega arith) (λ _. omega arith)
-
-  pub part-ordered : newPart r seq len .from ≤ newPart r seq len .to
-  unfolding newPart
-  part-ordered =
-      either (λ (p : Part). p .from ≤ p .to) (hasNoPart r seq len) _ _ (λ _. omega arith)
-      (λ some.
-      let tests = neither (not (acceptable r seq len)) (leb (partEnd r seq len) (partStart r seq)) (neither (eqb len 0) _ some .1) in
-      omega (arith, leb-false (partEnd r seq len) (partStart r seq) (tests .1)))
 
   -- the cases of the new part: none of LEN 0, nor of a segment that is not acceptable
   no-part : hasNoPart r seq len ≡ true → newPart r seq len ≡ emptyPart
@@ -97,6 +89,15 @@ module _ (r : Receive) (seq len : ℕ) where
   pub not-acceptable : acceptable r seq len ≡ false → newPart r seq len ≡ emptyPart
   not-acceptable outside =
       no-part (or-right (eqb len 0) (not (acceptable r seq len) || isTooShort) (or-left (not (acceptable r seq len)) isTooShort (ap not outside)))
+
+  -- every part ends no earlier than it starts
+  pub part-ordered : newPart r seq len .from ≤ newPart r seq len .to
+  unfolding newPart
+  part-ordered =
+      either (λ (p : Part). p .from ≤ p .to) (hasNoPart r seq len) _ _ (λ _. omega arith)
+      (λ some.
+      let tests = neither (not (acceptable r seq len)) isTooShort (neither (eqb len 0) _ some .1) in
+      omega (arith, leb-false (partEnd r seq len) (partStart r seq) (tests .1)))
 
   start-inside : first < r .window → partStart r seq ≡ first
   start-inside low = rw (lt-ltb first (r .window) low)
@@ -137,6 +138,11 @@ module _ (r : Receive) (seq len : ℕ) where
 
     pub outside : r .window ≤ first → r .window ≤ last → newPart r seq len ≡ emptyPart
     outside low high = not-acceptable (both-outside filled low high)
+
+  -- LEN 0 has no FIN in its part
+  pub no-fin : len ≡ 0 → (fin : Bool) → finInside r seq len fin ≡ false
+  unfolding finInside
+  no-fin none fin = rw (nothing-sent none, none-lies last) (and-false fin)
 
   -- the segment's last number, and its new part
   pub last-outside : r .window ≤ last → liesIn (newPart r seq len) last ≡ false

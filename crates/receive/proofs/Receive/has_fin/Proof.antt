@@ -3,8 +3,8 @@ use mathlib.Core.Path.{sym}
 use native.Mathlib.Omega.{arith}
 use borrow.Author.Needs.{needs}
 use borrow.Author.Tests.{not-false, not-true}
-use Rattle.receive.specs.Window.{finInside, lastOffset}
-use Rattle.receive.proofs.Parts.{last-behind, last-inside, last-outside, none-lies, nothing-sent}
+use Rattle.receive.specs.Window.{finInside}
+use Rattle.receive.proofs.Parts.{last-behind, last-inside, last-outside, no-fin}
 use Rattle.receive.proofs.Receive.has_fin.Statement.{statement}
 use Rattle.receive.proofs.Receive.has_fin.Tie as tie
 
@@ -13,11 +13,9 @@ unfolding finInside
 returns c = rw (not-true (c .before .args .fin) (c .if1 .taken))
 
 returns-2 : tie.Need-returns-2
-unfolding finInside
 returns-2 c =
     let a = c .before .before .args in
-    let none = nothing-sent (a .self) (a .seq .0) (a .len) (c .if2 .taken) in
-    rw (not-false (a .fin) (c .before .if1 .left), none) (sym (none-lies (lastOffset (a .self) (a .seq .0) (a .len))))
+    sym (no-fin (a .self) (a .seq .0) (a .len) (c .if2 .taken) (a .fin))
 
 last-requires : tie.Need-last-requires
 last-requires c κs = search needs
