@@ -17,6 +17,18 @@ pub both-true : (a b : Bool) → a && b ≡ true → (a ≡ true) × (b ≡ true
 both-true true b t = (refl, t)
 both-true false b t = absurd (false≢true t)
 
+-- the two ways out of `||`
+pub either-true : (a b : Bool) → a || b ≡ true → (a ≡ true) ⊎ (b ≡ true)
+either-true true b t = inl refl
+either-true false b t = inr t
+
+pub or-left : (a b : Bool) → a ≡ true → a || b ≡ true
+or-left a b t = rw t
+
+pub or-right : (a b : Bool) → b ≡ true → a || b ≡ true
+or-right true b t = refl
+or-right false b t = t
+
 pub neither : (a b : Bool) → a || b ≡ false → (a ≡ false) × (b ≡ false)
 neither true b t = absurd (true≢false t)
 neither false b t = (refl, t)

@@ -11,11 +11,12 @@ use Rattle.receive.specs.Ranges.{heldOf, joined, leftOf, meets, rightOf,
 use Rattle.receive.specs.Internal.{absorbedOf}
 
 -- the part that is absorbed by then, joined with a range more
-abbrev widened : ℕ → Range → Absorbed → Absorbed
-widened nxt r a = record {
-  part = record { from = min (leftOf nxt r) (a .part .from); to = max (rightOf nxt r) (a .part .to) };
-  rest = a .rest;
-}
+module _ (nxt : ℕ) (p : Part) (r : Range) where
+  abbrev widened : Absorbed → Absorbed
+  widened a = record {
+    part = record { from = min (leftOf nxt r) (a .part .from); to = max (rightOf nxt r) (a .part .to) };
+    rest = a .rest;
+  }
 
 module _ (nxt : ℕ) (p : Part) (l : List Range) (a : Absorbed) (is : a ≡ absorbedOf nxt p l) where
   pub part-is : a .part ≡ joined nxt p l
@@ -27,9 +28,9 @@ module _ (nxt : ℕ) (p : Part) (l : List Range) (a : Absorbed) (is : a ≡ abso
   rest-is = ap (λ x. x .rest) is
 
   module _ (r : Range) where
-    pub one-met : meets nxt p r ≡ true → widened nxt r a ≡ absorbedOf nxt p (r ∷ l)
+    pub one-met : meets nxt p r ≡ true → widened nxt p r a ≡ absorbedOf nxt p (r ∷ l)
     unfolding absorbedOf joined
-    one-met t = rw t (ap (widened nxt r) is)
+    one-met t = rw t (ap (widened nxt p r) is)
 
     pub one-unmet : (rest : Held) → meets nxt p r ≡ false → rest ≡ heldOf (r ∷ unmet nxt p l) →
         _≡_ {A = Absorbed} record { part = a .part; rest = rest } (absorbedOf nxt p (r ∷ l))

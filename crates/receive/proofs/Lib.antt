@@ -1,7 +1,10 @@
 mod Absorbing
+pub mod Coverage
 pub mod Edge
 pub mod Opening
-mod Room
+pub mod Order
+pub mod Parts
+pub mod Room
 pub mod Slots
 mod Soundness
 pub mod Taken

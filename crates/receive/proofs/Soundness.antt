@@ -27,11 +27,11 @@ turn nxt r s (inr h) = inl h
 
 -- how far the ends move
 module _ (nxt o : ℕ) where
-  least-most : (l : List Range) → least nxt o l ≤ o
+  pub least-most : (l : List Range) → least nxt o l ≤ o
   least-most [] = omega arith
   least-most (r ∷ l) = omega (arith, least-most l)
 
-  greatest-least : (l : List Range) → o ≤ greatest nxt o l
+  pub greatest-least : (l : List Range) → o ≤ greatest nxt o l
   greatest-least [] = omega arith
   greatest-least (r ∷ l) = omega (arith, greatest-least l)
 

@@ -1,13 +1,13 @@
 -- Taking a new part, and writing an acknowledgment, leave a sound receive side; an empty part leaves it as it was. Assumes nothing.
 use mathlib.Core.Bool.{Bool, true, false, cond, not, _&&_}
 use mathlib.Core.List.{List, _∷_}
-use mathlib.Core.Path.{_≡_, refl, ap, _∙_}
-use Prim.Native.Nat.{ℕ, _+_, _-_, _%_, _^_, _≤_, _<_}
+use mathlib.Core.Path.{_≡_, refl, sym, ap, _∙_}
+use Prim.Native.Nat.{ℕ, _^_, _≤_, _<_}
 use native.Mathlib.Nat.{mul-le-mul-left}
 use native.Mathlib.Omega.{arith}
 use lib.Dec.{eqb, ltb}
 use lib.Pow.{pow-mono}
-use borrow.Author.Tests.{eq-eqb, eqb-true, lt-leb, ltb-true, ne-eqb}
+use borrow.Author.Tests.{eq-eqb, eqb-false, eqb-true, lt-leb, ltb-true, ne-eqb}
 use Rattle.serial.specs.declared.Range.{Range}
 use Rattle.receive.specs.declared.Held.{Held}
 use Rattle.receive.specs.declared.Part.{Part}
@@ -16,18 +16,14 @@ use Rattle.laws.specs.Lists.{Each}
 use Rattle.receive.specs.Ranges.{heldOf, isOutOfOrder, joined, leftOf, meets, noRoom, rangeOf, rangesAfter, rangesOf, unmet}
 use Rattle.receive.specs.Sound.{Sound, SoundRanges}
 use Rattle.receive.specs.Taking.{acknowledged, advance, advanced, holding, taken}
-use Rattle.receive.specs.Window.{newPart}
+use Rattle.receive.specs.Window.{acceptable, emptyPart, newPart}
 use Rattle.receive.specs.Internal.{movedOn}
 use Rattle.laws.proofs.Choices.{both-true, either}
 use Rattle.laws.proofs.Lists.{each-map, filter-none, filter-others}
-use Rattle.receive.proofs.Room.{near-leaves, room}
+use Rattle.receive.proofs.Parts.{not-acceptable, nothing-sent, part-within}
+use Rattle.receive.proofs.Room.{full-leaves, near-leaves, no-room-full, none-out-of-order, room}
 use Rattle.receive.proofs.Slots.{canonical-held, none-held, ranges-held}
 use Rattle.receive.proofs.Soundness.{advanced-sound, joined-sound, joined-within}
-
--- the new part lies in the window
-pub part-within : (r : Receive) (seq len : ℕ) → newPart r seq len .to ≤ r .window
-unfolding newPart
-part-within r seq len = either (λ (p : Part). p .to ≤ r .window) (eqb len 0) _ _ (λ _. omega arith) (λ _. omega arith)
 
 -- the two cases
 module _ (r : Receive) (p : Part) where
@@ -107,6 +103,35 @@ module _ (r : Receive) (s : Sound r) where
       moved : Held → Receive
       moved held = record { nxt = m .nxt; window = m .window; shift = m .shift; acked = m .acked; held = held }
 
+  -- an advance to 0 changes nothing
+  advanced-none : (p : Part) → p .to ≡ 0 → advanced r p ≡ r
+  unfolding advanced joined meets
+  advanced-none p none = λ i. record {
+    nxt = record { 0 = nxt-is i };
+    window = window-is i;
+    shift = r .shift;
+    acked = r .acked;
+    held = held-is i;
+  }
+    where
+      above : (x : Range) → 0 < leftOf (r .nxt .0) x → meets (r .nxt .0) p x ≡ false
+      above x h = rw (lt-leb (leftOf (r .nxt .0) x) (p .to) (omega arith))
+
+      clear : Each (λ x. meets (r .nxt .0) p x ≡ false) (rangesOf (r .held))
+      clear = each-map (λ x i. above x (i .above)) (s .ranges .inside)
+
+      advance-is : advance r p ≡ 0
+      advance-is = rw (filter-none (meets (r .nxt .0) p) clear) none
+
+      nxt-is : advanced r p .nxt .0 ≡ r .nxt .0
+      nxt-is = omega (arith, advance-is, s .nxt-below)
+
+      window-is : advanced r p .window ≡ r .window
+      window-is = omega (arith, advance-is)
+
+      held-is : advanced r p .held ≡ r .held
+      held-is = ap heldOf (filter-others (meets (r .nxt .0) p) clear) ∙ sym (s .canonical .form)
+
   pub holding-near : (p : Part) → isOutOfOrder p ≡ false → holding r p ≡ r
   unfolding holding
   holding-near p near = rw (near-leaves (r .nxt .0) p (rangesOf (r .held)) near, ← s .canonical .form)
@@ -118,20 +143,27 @@ pub acknowledged-sound : (r : Receive) → Sound r → Sound (acknowledged r)
 acknowledged-sound r s =
     record { nxt-below = s .nxt-below; shift-most = s .shift-most; window-most = s .window-most; canonical = s .canonical; ranges = s .ranges }
 
-abbrev empty : Part
-empty = record { from = 0; to = 0 }
+-- a part that changes nothing
+module _ (r : Receive) (s : Sound r) (p : Part) where
+  -- an empty part changes no range and leaves RCV.NXT
+  pub empty-leaves : p .to ≤ p .from → taken r p ≡ r
+  empty-leaves none = pick (eqb (p .from) 0) refl
+    where
+      pick : (b : Bool) → eqb (p .from) 0 ≡ b → taken r p ≡ r
+      pick true zero = taken-first r p (eqb-true _ _ zero) ∙ advanced-none r s p (omega (arith, eqb-true (p .from) 0 zero))
+      pick false later = taken-later r p (eqb-false _ _ later) ∙ holding-near r s p (none-out-of-order p none)
 
-above-empty : (nxt : ℕ) (r : Range) → 0 < leftOf nxt r → meets nxt empty r ≡ false
-unfolding meets
-above-empty nxt r above = rw (lt-leb (leftOf nxt r) 0 above)
+  -- nor does one for which there is no room
+  pub no-room-leaves : noRoom (r .nxt .0) p (rangesOf (r .held)) ≡ true → taken r p ≡ r
+  unfolding holding
+  no-room-leaves full =
+      taken-later r p (λ zero. omega (arith, no-room-full (r .nxt .0) p (rangesOf (r .held)) full .later))
+      ∙ rw (full-leaves (r .nxt .0) p (rangesOf (r .held)) full, ← s .canonical .form)
 
--- LEN 0 changes no range and leaves RCV.NXT
+-- LEN 0
 pub empty-part : (r : Receive) (seq : ℕ) → Sound r → taken r (newPart r seq 0) ≡ r
-unfolding taken newPart advanced joined
-empty-part r seq s =
-    let nxt : (r .nxt .0 + 0) % 2 ^ 32 ≡ r .nxt .0 = omega (arith, s .nxt-below) in
-    let window : r .window - 0 ≡ r .window = omega arith in
-    rw (filter-none (meets (r .nxt .0) empty) clear, filter-others (meets (r .nxt .0) empty) clear, nxt, window, ← s .canonical .form)
-  where
-    clear : Each (λ x. meets (r .nxt .0) empty x ≡ false) (rangesOf (r .held))
-    clear = each-map (λ x i. above-empty (r .nxt .0) x (i .above)) (s .ranges .inside)
+empty-part r seq s = ap (taken r) (nothing-sent r seq 0 refl) ∙ empty-leaves r s emptyPart (omega arith)
+
+-- a segment that is not acceptable
+pub outside-leaves : (r : Receive) (seq len : ℕ) → Sound r → acceptable r seq len ≡ false → taken r (newPart r seq len) ≡ r
+outside-leaves r seq len s outside = ap (taken r) (not-acceptable r seq len outside) ∙ empty-leaves r s emptyPart (omega arith)

@@ -30,6 +30,10 @@ leftOf nxt r = offsetOf nxt (r .left .0)
 unfoldable pub rightOf : ℕ → Range → ℕ
 rightOf nxt r = offsetOf nxt (r .right .0)
 
+-- the offset o lies in the part
+abbrev pub liesIn : Part → ℕ → Bool
+liesIn p o = leb (p .from) o && ltb o (p .to)
+
 -- the range overlaps or touches the part
 unfoldable pub meets : ℕ → Part → Range → Bool
 meets nxt p r = leb (leftOf nxt r) (p .to) && leb (p .from) (rightOf nxt r)

@@ -1,22 +1,23 @@
 -- The window test and the new part of a segment (document 01, "Verdicts, in this order" and "What taking does"), and opening the window
 -- (E13). A segment is given by SEQ and LEN.
-use mathlib.Core.Bool.{Bool, false, cond, _&&_, _||_}
+use mathlib.Core.Bool.{Bool, false, cond, not, _&&_, _||_}
 use mathlib.Core.List.{[]}
 use Prim.Native.Nat.{ℕ, _+_, _-_, _*_, _^_, min}
-use lib.Dec.{eqb, ltb}
+use lib.Dec.{eqb, leb, ltb}
 use Rattle.serial.specs.Serial.{movedBy, offsetOf}
 use Rattle.receive.specs.declared.Part.{Part}
 use Rattle.receive.specs.declared.Receive.{Receive}
 use Rattle.receive.specs.declared.WindowAnswer.{WindowAnswer}
 use Rattle.receive.specs.declared.WindowOutcome.{WindowOutcome}
-use Rattle.receive.specs.Ranges.{heldOf, noRoom, rangesOf}
+use Rattle.receive.specs.Ranges.{heldOf, liesIn, noRoom, rangesOf}
 
--- RCV.NXT = Last.ACK.sent, and no ranges are held
+-- RCV.NXT = Last.ACK.sent, and no ranges are held. A first window above 65,535 counts as 65,535, and a shift above 14 as 14: E9 lets
+-- neither pass.
 unfoldable pub opened : ℕ → ℕ → ℕ → Receive
 opened nxt window shift = record {
   nxt = record { 0 = nxt };
-  window = window;
-  shift = shift;
+  window = min window 65535;
+  shift = min shift 14;
   acked = record { 0 = nxt };
   held = heldOf [];
 }
@@ -36,16 +37,29 @@ acceptable r seq len =
     (cond (eqb (r .window) 0) (eqb seq (r .nxt .0)) (ltb (firstOffset r seq) (r .window)))
     (cond (eqb (r .window) 0) false (ltb (firstOffset r seq) (r .window) || ltb (lastOffset r seq len) (r .window)))
 
--- document 01's "new part", as offsets from RCV.NXT: from o(SEQ) if below the window, else 0; to the end of the segment or the window,
--- whichever comes first. LEN 0 has an empty part at offset 0.
+-- where the new part starts and ends: from o(SEQ) if below the window, else 0; to the end of the segment or the window, whichever comes
+-- first
+abbrev pub partStart : Receive → ℕ → ℕ
+partStart r seq = cond (ltb (firstOffset r seq) (r .window)) (firstOffset r seq) 0
+
+abbrev pub partEnd : Receive → ℕ → ℕ → ℕ
+partEnd r seq len = min (lastOffset r seq len + 1) (r .window)
+
+-- what has an empty part: LEN 0, a segment that is not acceptable, and one whose part would end at or before its start
+abbrev pub hasNoPart : Receive → ℕ → ℕ → Bool
+hasNoPart r seq len = eqb len 0 || (not (acceptable r seq len) || leb (partEnd r seq len) (partStart r seq))
+
+-- which is at offset 0
+abbrev pub emptyPart : Part
+emptyPart = record { from = 0; to = 0 }
+
+-- document 01's "new part", as offsets from RCV.NXT
 unfoldable pub newPart : Receive → ℕ → ℕ → Part
-newPart r seq len =
-    cond (eqb len 0) (record { from = 0; to = 0 })
-    (record { from = cond (ltb (firstOffset r seq) (r .window)) (firstOffset r seq) 0; to = min (lastOffset r seq len + 1) (r .window) })
+newPart r seq len = cond (hasNoPart r seq len) emptyPart (record { from = partStart r seq; to = partEnd r seq len })
 
 -- FIN counts as the segment's last number: whether there is one, and it lies in the new part
 unfoldable pub finInside : Receive → ℕ → ℕ → Bool → Bool
-finInside r seq len fin = fin && ltb (lastOffset r seq len) (newPart r seq len .to)
+finInside r seq len fin = fin && liesIn (newPart r seq len) (lastOffset r seq len)
 
 -- verdict 30, of the new part and the ranges held
 unfoldable pub lacksRoom : Receive → ℕ → ℕ → Bool

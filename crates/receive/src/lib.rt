@@ -44,7 +44,7 @@ pub enum WindowOutcome {
     Refused,
 }
 
-// Where the window is refused, the receive side is the one handed in.
+// Where the window is refused, the receive side is as it was.
 pub struct WindowAnswer {
     pub outcome: WindowOutcome,
     pub receive: Receive,
@@ -63,10 +63,13 @@ impl WindowOutcome {
 }
 
 impl Receive {
-    // A receive side at its opening.
+    // A receive side at its opening; a window above 65,535 counts as 65,535, and a shift above 14 as 14.
     pub fn new(nxt: Seq, window: u32, shift: u32) -> Receive
-        ensures { λ r. ⌜ r ≡ opened (nxt .0) window shift ⌝ }
+        ensures opened { λ r. ⌜ r ≡ opened (nxt .0) window shift ⌝ }
+        ensures sound { λ r. ⌜ Sound r ⌝ }
     {
+        let window = ranges::least(window, 65535);
+        let shift = ranges::least(shift, 14);
         let held = ranges::none();
         Receive {
             nxt,
@@ -94,7 +97,7 @@ impl Receive {
         window::last(self.nxt, seq, len) < self.window
     }
 
-    // The part of a segment that is new and in the window.
+    // The part of a segment that is new and in the window; where there is none, the empty part at 0.
     pub fn new_part(self, seq: Seq, len: u32) -> Part
         ensures { λ r. ⌜ r ≡ newPart self (seq .0) len ⌝ }
     {
@@ -102,12 +105,21 @@ impl Receive {
             return Part { from: 0, to: 0 };
         }
         let first = seq.offset(self.nxt);
-        let to = window::end(window::last(self.nxt, seq, len), self.window);
+        let last = window::last(self.nxt, seq, len);
         if first < self.window {
-            Part { from: first, to }
-        } else {
-            Part { from: 0, to }
+            if last < first {
+                return Part { from: 0, to: 0 };
+            }
+            let to = window::end(last, self.window);
+            return Part { from: first, to };
         }
+        if last < self.window {
+            return Part {
+                from: 0,
+                to: last + 1,
+            };
+        }
+        Part { from: 0, to: 0 }
     }
 
     // Whether the FIN of a segment lies in its new part.
@@ -120,8 +132,16 @@ impl Receive {
         if len == 0 {
             return false;
         }
-        // The new part ends after the last number or with the window.
-        window::last(self.nxt, seq, len) < self.window
+        let last = window::last(self.nxt, seq, len);
+        if self.window <= last {
+            return false;
+        }
+        // The part is empty only where the segment starts in the window past its last number.
+        let first = seq.offset(self.nxt);
+        if first <= last {
+            return true;
+        }
+        self.window <= first
     }
 
     // Whether there is no room to hold the new part: verdict 30.

@@ -134,7 +134,7 @@ pub fn absorb(held: Held, nxt: Seq, p: Part) -> Absorbed
     absorbed
 }
 
-fn least(a: u32, b: u32) -> u32
+pub fn least(a: u32, b: u32) -> u32
     ensures { λ r. ⌜ r ≡ min a b ⌝ }
 {
     if a < b { a } else { b }

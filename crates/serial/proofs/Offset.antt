@@ -1,6 +1,6 @@
 -- The offset o(x) is the one number below 2^32 that leads from the base to x. Assumes nothing.
-use mathlib.Core.Path.{_≡_, sym}
-use Prim.Native.Nat.{ℕ, _-_, _%_, _^_, _<_, _≤_}
+use mathlib.Core.Path.{_≡_, sym, ap, _∙_}
+use Prim.Native.Nat.{ℕ, _+_, _-_, _%_, _^_, _<_, _≤_}
 use native.Mathlib.Omega.{arith}
 use Rattle.serial.specs.Serial.{movedBy, offsetOf}
 
@@ -30,3 +30,30 @@ offset-from-moved base n x past =
 pub offset-both-moved : (base x n : ℕ) → offsetOf (movedBy base n) (movedBy x n) ≡ offsetOf base x
 offset-both-moved base x n =
     sym (offset-only (movedBy base n) (movedBy x n) (offsetOf base x) (offset-below base x) (omega (arith, moved-offset base x)))
+
+remainder-moved : (x n : ℕ) → movedBy (x % 2 ^ 32) n ≡ movedBy x n % 2 ^ 32
+remainder-moved x n = omega arith
+
+moved-twice : (base m n : ℕ) → movedBy base (movedBy m n) ≡ movedBy (movedBy base m) n
+moved-twice base m n = omega arith
+
+-- seen from a number a, by where both lie as seen from the base
+module _ (base a x : ℕ) where
+  -- from the base to a, and from there to x
+  pub offset-sum : movedBy (offsetOf base a) (offsetOf a x) ≡ offsetOf base x
+  offset-sum =
+      offset-only base x _ (omega arith)
+      (moved-twice base (offsetOf base a) (offsetOf a x)
+      ∙ (ap (λ y. movedBy y (offsetOf a x)) (moved-offset base a)
+      ∙ (remainder-moved a (offsetOf a x) ∙ omega (arith, moved-offset a x))))
+
+  pub offset-between : offsetOf base a ≤ offsetOf base x → offsetOf a x ≡ offsetOf base x - offsetOf base a
+  offset-between order = omega (arith, offset-sum, offset-below base a, offset-below a x)
+
+  pub offset-around : offsetOf base x < offsetOf base a → offsetOf a x ≡ offsetOf base x + 2 ^ 32 - offsetOf base a
+  offset-around order = omega (arith, offset-sum, offset-below base a, offset-below a x)
+
+-- a number lies 0 past itself
+pub offset-self : (a : ℕ) → offsetOf a a ≡ 0
+unfolding offsetOf
+offset-self a = omega arith

@@ -1,5 +1,5 @@
 -- By what `moved_on` ensures, of the part alone where nothing is held, else of the part that was absorbed. Assumes nothing.
-use mathlib.Core.Path.{_≡_, _∙_}
+use mathlib.Core.Path.{_∙_}
 use borrow.Author.Needs.{needs}
 use Rattle.receive.specs.Ranges.{rangesOf}
 use Rattle.receive.specs.Taking.{advanced}

@@ -1,18 +1,11 @@
 -- The ways out are document 01's cases; nothing is below an empty window, so that the code need not test for it. Assumes nothing.
-use mathlib.Core.Bool.{false, cond, _||_}
-use mathlib.Core.Path.{_≡_}
-use Prim.Native.Nat.{ℕ, zero, suc}
 use native.Mathlib.Omega.{arith}
-use lib.Dec.{eqb, ltb}
 use borrow.Author.Needs.{needs}
 use borrow.Author.Tests.{eq-eqb, le-ltb, lt-ltb, ne-eqb}
 use Rattle.receive.specs.Window.{acceptable}
+use Rattle.receive.proofs.Parts.{accepts-ends}
 use Rattle.receive.proofs.Receive.is_acceptable.Statement.{statement}
 use Rattle.receive.proofs.Receive.is_acceptable.Tie as tie
-
-no-window : (w a b : ℕ) → cond (eqb w 0) false (ltb a w || ltb b w) ≡ ltb a w || ltb b w
-no-window zero a b = rw (le-ltb a zero (omega arith), le-ltb b zero (omega arith))
-no-window (suc w) a b = rw (ne-eqb (suc w) 0 (λ e. omega arith))
 
 offset-requires : tie.Need-offset-requires
 offset-requires c κs = search needs
@@ -30,20 +23,25 @@ returns-2 c =
     rw (eq-eqb _ _ (length .if1 .taken), ne-eqb _ _ (c .before .if2 .left), length .before .offset .ensures)
 
 returns-3 : tie.Need-returns-3
-unfolding acceptable
 returns-3 c =
     let length = c .before .before in
-    rw (ne-eqb _ _ (length .if1 .left), no-window, ← length .before .offset .ensures, lt-ltb _ _ (c .if3 .taken))
+    let a = length .before .before .args in
+    rw (accepts-ends (a .self) (a .seq .0) (a .len) (omega arith), ← length .before .offset .ensures, lt-ltb _ _ (c .if3 .taken))
 
 last-requires : tie.Need-last-requires
 last-requires c κs = search needs
 
 returns-4 : tie.Need-returns-4
-unfolding acceptable
 returns-4 c =
     let first = c .before .before in
     let length = first .before .before in
-    rw (ne-eqb _ _ (length .if1 .left), no-window, ← length .before .offset .ensures, le-ltb _ _ (first .if3 .left), c .before .last .ensures)
+    let a = length .before .before .args in
+    rw (
+      accepts-ends (a .self) (a .seq .0) (a .len) (omega arith),
+      ← length .before .offset .ensures,
+      le-ltb _ _ (first .if3 .left),
+      c .before .last .ensures,
+    )
 
 pub is-acceptable-spec : {M : Type 1} → statement M
 is-acceptable-spec =

@@ -5,7 +5,8 @@ use Rattle.receive.specs.declared.Receive.{Receive}
 use Rattle.receive.specs.Sound.{Sound}
 use Rattle.receive.specs.Taking.{taken}
 use Rattle.receive.specs.Window.{newPart}
-use Rattle.receive.proofs.Taken.{holding-near, part-within, taken-first, taken-later, taken-sound}
+use Rattle.receive.proofs.Parts.{part-within}
+use Rattle.receive.proofs.Taken.{holding-near, taken-first, taken-later, taken-sound}
 use Rattle.receive.proofs.Receive.take.Statement.{statement}
 use Rattle.receive.proofs.Receive.take.Tie as tie
 
