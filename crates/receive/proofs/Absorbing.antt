@@ -2,21 +2,13 @@
 use mathlib.Core.Bool.{true, false}
 use mathlib.Core.List.{List, _∷_}
 use mathlib.Core.Path.{_≡_, ap}
-use Prim.Native.Nat.{ℕ, min, max}
+use Prim.Native.Nat.{ℕ}
 use Rattle.serial.specs.declared.Range.{Range}
 use Rattle.receive.specs.declared.Held.{Held}
 use Rattle.receive.specs.declared.Part.{Part}
 use Rattle.receive.specs.declared.ranges.Absorbed.{Absorbed}
-use Rattle.receive.specs.Ranges.{heldOf, joined, leftOf, meets, rightOf, unmet}
-use Rattle.receive.specs.Internal.{absorbedOf}
-
--- the part that is absorbed by then, joined with a range more
-module _ (nxt : ℕ) (p : Part) (r : Range) where
-  abbrev widened : Absorbed → Absorbed
-  widened a = record {
-    part = record { from = min (leftOf nxt r) (a .part .from); to = max (rightOf nxt r) (a .part .to) };
-    rest = a .rest;
-  }
+use Rattle.receive.specs.Ranges.{heldOf, joined, meets, unmet}
+use Rattle.receive.specs.Internal.{absorbedOf, withMet}
 
 module _ (nxt : ℕ) (p : Part) (l : List Range) (a : Absorbed) (is : a ≡ absorbedOf nxt p l) where
   pub part-is : a .part ≡ joined nxt p l
@@ -28,9 +20,9 @@ module _ (nxt : ℕ) (p : Part) (l : List Range) (a : Absorbed) (is : a ≡ abso
   rest-is = ap (λ x. x .rest) is
 
   module _ (r : Range) where
-    pub one-met : meets nxt p r ≡ true → widened nxt p r a ≡ absorbedOf nxt p (r ∷ l)
+    pub one-met : meets nxt p r ≡ true → withMet nxt p r a ≡ absorbedOf nxt p (r ∷ l)
     unfolding absorbedOf joined
-    one-met t = rw t (ap (widened nxt p r) is)
+    one-met t = rw t (ap (withMet nxt p r) is)
 
     pub one-unmet : (rest : Held) → meets nxt p r ≡ false → rest ≡ heldOf (r ∷ unmet nxt p l) →
         _≡_ {A = Absorbed} record { part = a .part; rest = rest } (absorbedOf nxt p (r ∷ l))
