@@ -14,7 +14,7 @@ length-bigEndian zero n = refl
 length-bigEndian (suc w) n = ap suc (length-bigEndian w (n % 256 ^ w))
 
 -- what stands in front of a place does not matter to the number there
-numberAt-after : (w at : ℕ) (x : ℕ) (octets : List ℕ) → numberAt w (x ∷ octets) (suc at) ≡ numberAt w octets at
+pub numberAt-after : (w at : ℕ) (x : ℕ) (octets : List ℕ) → numberAt w (x ∷ octets) (suc at) ≡ numberAt w octets at
 unfolding numberAt
 numberAt-after zero at x octets = refl
 numberAt-after (suc w) at x octets =
