@@ -6,10 +6,10 @@ use mathlib.Core.Path.{_≡_, refl, sym, ap, _∙_}
 use Prim.Native.Nat.{ℕ, _*_, _/_, _≤_, _<_}
 use native.Mathlib.Omega.{arith}
 use lib.Dec.{ltb}
-use lib.ListN.{drop, length}
+use lib.ListN.{drop, length, take}
 use borrow.Author.Tests.{le-ltb, lt-ltb, ltb-false, ltb-true}
 use Rattle.octets.specs.Octets.{stored}
-use Rattle.octets.proofs.Stores.{later-stored, length-stored}
+use Rattle.octets.proofs.Stores.{first-stored, later-stored, length-stored}
 use Rattle.segment.specs.declared.Options.{Options}
 use Rattle.writer.specs.Writing.{shownWriting, writing}
 use Rattle.writer.specs.declared.Header.{Header}
@@ -125,6 +125,11 @@ module _ (k : Connection) (ports : Ports) (clock : ℕ) (buffer : List ℕ) wher
   only-last-ack e = is-call e
 
   -- The buffer afterwards, and how much of it was written.
+  pub octets-written : a .number ≡ 0 → take (a .length) (a .buffer) ≡ ownOctets k ports clock
+  octets-written =
+      by-cases (λ x. x .number ≡ 0 → take (x .length) (x .buffer) ≡ octets) (λ back e. absurd (omega arith))
+      (λ on short e. absurd (omega arith)) (λ on room e. first-stored octets buffer)
+
   pub later-octets-stay : drop (a .length) (a .buffer) ≡ drop (a .length) buffer
   later-octets-stay =
       by-cases (λ x. drop (x .length) (x .buffer) ≡ drop (x .length) buffer) (λ back. refl) (λ on short. refl)

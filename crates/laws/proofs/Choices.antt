@@ -35,3 +35,8 @@ or-left a b t = rw t
 
 pub or-right : (a b : Bool) → b ≡ true → a || b ≡ true
 or-right a b t = rw t (or-true a)
+
+pub or-swap : (a b c : Bool) → a || (b || c) ≡ b || (a || c)
+or-swap true true c = refl
+or-swap true false c = refl
+or-swap false b c = refl
