@@ -1,7 +1,7 @@
 -- An acknowledgment that is written is read back by our reader to the same fields, with all its SACK blocks. Assumes nothing.
 use mathlib.Core.Bool.{Bool, true, false, cond}
 use mathlib.Core.List.{List, [], _++_}
-use mathlib.Core.Path.{_≡_, refl, ap, _∙_}
+use mathlib.Core.Path.{_≡_, refl, sym, ap, _∙_}
 use Prim.Native.Nat.{ℕ, _≤_}
 use native.Mathlib.Omega.{arith}
 use lib.ListN.{length, length-take, take}
@@ -21,7 +21,7 @@ use Rattle.writer.proofs.Lengths.{fits, length-written}
 use Rattle.writer.proofs.ReadBack.{buffer-read-back}
 use Rattle.receive.specs.Ranges.{rangesOf}
 use Rattle.connection.specs.declared.Connection.{Connection}
-use Rattle.acknowledgment.specs.Acknowledgment.{acknowledging, ownBlocks, ownHeader, ownOptions, ownTimestamps}
+use Rattle.acknowledgment.specs.Acknowledgment.{acknowledging, onlyAck, ownBlocks, ownHeader, ownOptions, ownTimestamps, windowField}
 use Rattle.acknowledgment.specs.ReadBack.{ownOctets, ownSegment}
 
 -- room for so many blocks beside the timestamps
@@ -61,7 +61,27 @@ module _ (k : Connection) (ports : Ports) (clock : ℕ) where
 
   segment-is : segmentWritten (ownHeader k ports) options ≡ ownSegment k ports clock
   unfolding segmentWritten ownSegment ownHeader ownOptions
-  segment-is = rw (ap blocksOfList none-left-out ∙ blocks-back (options .blocks), ← length-written (ownHeader k ports) options)
+  segment-is =
+      let blocks = ap blocksOfList none-left-out ∙ blocks-back (options .blocks) in
+      let size = length-written (ownHeader k ports) options in
+      λ i. record {
+        source = ports .source;
+        destination = ports .destination;
+        seq = k .send .nxt;
+        ack = k .receive .nxt;
+        flags = onlyAck;
+        window = windowField (k .receive);
+        urgent = 0;
+        options = record {
+          mss = options .mss;
+          scale = options .scale;
+          permitted = options .permitted;
+          blocks = blocks i;
+          timestamps = options .timestamps;
+        };
+        payload = record { start = sym size i; length = 0 };
+        len = 0;
+      }
 
   pub read-back : (buffer : List ℕ) → k .timestamping .since ≤ clock → length (ownOctets k ports clock) ≤ length buffer
       → reading (take (acknowledging k ports clock buffer .length) (acknowledging k ports clock buffer .buffer)) ≡ readAs (ownSegment k ports clock)
