@@ -1,15 +1,17 @@
 -- What is answered, case by case, and what holds of every answer. Assumes nothing.
-use mathlib.Core.Bool.{Bool, true, false}
+use mathlib.Core.Bool.{Bool, true, false, cond}
 use mathlib.Core.List.{List}
 use mathlib.Core.Logic.{_↔_}
 use mathlib.Core.Path.{_≡_, refl, sym, ap, _∙_}
 use Prim.Native.Nat.{ℕ, _*_, _/_, _≤_, _<_}
 use native.Mathlib.Omega.{arith}
 use lib.Dec.{ltb}
-use lib.ListN.{drop, length}
+use lib.ListN.{drop, length, take}
 use borrow.Author.Tests.{le-ltb, lt-ltb, ltb-false, ltb-true}
+use Rattle.octets.specs.Octets.{stored}
+use Rattle.octets.proofs.Stores.{first-stored, later-stored, length-stored}
 use Rattle.segment.specs.declared.Options.{Options}
-use Rattle.writer.specs.Writing.{shownWriting, stored, writing}
+use Rattle.writer.specs.Writing.{shownWriting, writing}
 use Rattle.writer.specs.declared.Header.{Header}
 use Rattle.writer.specs.declared.Ports.{Ports}
 use Rattle.writer.specs.declared.Writing.{Writing}
@@ -18,8 +20,8 @@ use Rattle.writer.proofs.Lengths.{length-options, length-written, units-most}
 use Rattle.connection.specs.Calls.{acknowledgment, called}
 use Rattle.connection.specs.Operations.{acknowledged}
 use Rattle.connection.specs.declared.Connection.{Connection}
-use Rattle.acknowledgment.specs.Acknowledgment.{Answer, acknowledging, answeredBy, headerOf, optionsOf, refused}
-use Rattle.acknowledgment.specs.ReadBack.{octetsOf}
+use Rattle.acknowledgment.specs.Acknowledgment.{Answer, acknowledging, answeredBy, ownHeader, ownOptions, refused}
+use Rattle.acknowledgment.specs.ReadBack.{ownOctets}
 
 both-fail : {A B : Type 0} → (A → ⊥) → (B → ⊥) → A ↔ B
 both-fail f g = (λ a. absurd (f a), λ b. absurd (g b))
@@ -29,7 +31,7 @@ module _ (k : Connection) (ports : Ports) (clock : ℕ) (buffer : List ℕ) wher
   since = k .timestamping .since
 
   abbrev octets : List ℕ
-  octets = octetsOf k ports clock
+  octets = ownOctets k ports clock
 
   abbrev a : Answer
   a = acknowledging k ports clock buffer
@@ -37,27 +39,31 @@ module _ (k : Connection) (ports : Ports) (clock : ℕ) (buffer : List ℕ) wher
   abbrev pub wrote : Answer
   wrote = record { number = 0; length = length octets; buffer = stored octets buffer; connection = acknowledged k }
 
+  -- the answer, by whether the clock is refused
+  abbrev judged : Bool → Answer
+  judged back = cond back (refused 8 buffer k) (answeredBy k (writing (ownHeader k ports) (ownOptions k clock) buffer))
+
+  on-time : since ≤ clock → a ≡ judged false
+  unfolding acknowledging
+  on-time on = ap judged (le-ltb clock since on)
+
   -- E8, E7, or neither
   pub clock-back-if : clock < since → a ≡ refused 8 buffer k
   unfolding acknowledging
-  clock-back-if back = simp (lt-ltb _ _ back)
+  clock-back-if back = ap judged (lt-ltb clock since back)
 
   pub too-short-if : since ≤ clock → length buffer < length octets → a ≡ refused 7 buffer k
-  unfolding acknowledging
-  too-short-if on short = simp (le-ltb _ _ on, writer.refuses-if (headerOf k ports) (optionsOf k clock) buffer short)
+  too-short-if on short = on-time on ∙ ap (answeredBy k) (writer.refuses-if (ownHeader k ports) (ownOptions k clock) buffer short)
 
   pub writes-if : since ≤ clock → length octets ≤ length buffer → a ≡ wrote
-  unfolding acknowledging
-  writes-if on room = simp (le-ltb _ _ on, writer.writes-if (headerOf k ports) (optionsOf k clock) buffer room)
+  writes-if on room = on-time on ∙ ap (answeredBy k) (writer.writes-if (ownHeader k ports) (ownOptions k clock) buffer room)
 
   -- where the clock is not refused, by the case that the code's writer answered
-  pub by-writing : since ≤ clock → (header : Header) (options : Options) → header ≡ headerOf k ports → options ≡ optionsOf k clock
+  pub by-writing : since ≤ clock → (header : Header) (options : Options) → header ≡ ownHeader k ports → options ≡ ownOptions k clock
       → (w v : Writing) → w ≡ v → (exit : List ℕ) → shownWriting w exit ≡ writing header options buffer
       → answeredBy k (shownWriting v exit) ≡ a
-  unfolding acknowledging
   by-writing on header options x y w v same exit e =
-      (λ i. answeredBy k (shownWriting (sym same i) exit)) ∙ ap (answeredBy k) (e ∙ (λ i. writing (x i) (y i) buffer))
-      ∙ simp (le-ltb _ _ on)
+      (λ i. answeredBy k (shownWriting (sym same i) exit)) ∙ ap (answeredBy k) (e ∙ (λ i. writing (x i) (y i) buffer)) ∙ sym (on-time on)
 
   by-cases : (P : Answer → Type 0) → (clock < since → P (refused 8 buffer k))
       → (since ≤ clock → length buffer < length octets → P (refused 7 buffer k)) → (since ≤ clock → length octets ≤ length buffer → P wrote) → P a
@@ -94,27 +100,50 @@ module _ (k : Connection) (ports : Ports) (clock : ℕ) (buffer : List ℕ) wher
   refusal-leaves =
       by-cases (λ x. (x .number ≡ 0 → ⊥) → x ≡ refused (x .number) buffer k) (λ back e. refl) (λ on short e. refl) (λ on room e. absurd (e refl))
 
-  -- an acknowledgment that is written is the call of that name, which sets Last.ACK.sent and nothing else
-  pub only-last-ack : a .number ≡ 0 → a .connection ≡ called k acknowledgment
-  only-last-ack =
+  -- an acknowledgment that is written is the call of that name
+  pub is-call : a .number ≡ 0 → a .connection ≡ called k acknowledgment
+  is-call =
       by-cases (λ x. x .number ≡ 0 → x .connection ≡ called k acknowledgment) (λ back e. absurd (omega arith))
       (λ on short e. absurd (omega arith)) (λ on room e. refl)
 
+  -- Last.ACK.sent = RCV.NXT; nothing else in the record changes
+  pub only-last-ack : a .number ≡ 0 → a .connection ≡ record {
+    receive = record {
+      nxt = k .receive .nxt;
+      window = k .receive .window;
+      shift = k .receive .shift;
+      acked = k .receive .nxt;
+      held = k .receive .held;
+    };
+    send = k .send;
+    timestamping = k .timestamping;
+    sack = k .sack;
+    mss = k .mss;
+    timer = k .timer;
+  }
+  unfolding acknowledged
+  only-last-ack e = is-call e
+
   -- The buffer afterwards, and how much of it was written.
+  pub octets-written : a .number ≡ 0 → take (a .length) (a .buffer) ≡ ownOctets k ports clock
+  octets-written =
+      by-cases (λ x. x .number ≡ 0 → take (x .length) (x .buffer) ≡ octets) (λ back e. absurd (omega arith))
+      (λ on short e. absurd (omega arith)) (λ on room e. first-stored octets buffer)
+
   pub later-octets-stay : drop (a .length) (a .buffer) ≡ drop (a .length) buffer
   later-octets-stay =
       by-cases (λ x. drop (x .length) (x .buffer) ≡ drop (x .length) buffer) (λ back. refl) (λ on short. refl)
-      (λ on room. writer.later-stored octets buffer)
+      (λ on room. later-stored octets buffer)
 
   pub same-length : length (a .buffer) ≡ length buffer
   same-length =
       by-cases (λ x. length (x .buffer) ≡ length buffer) (λ back. refl) (λ on short. refl)
-      (λ on room. writer.length-stored octets buffer room)
+      (λ on room. length-stored octets buffer room)
 
   pub multiple-of-4 : (a .length ≡ 4 * (a .length / 4)) × (a .length ≤ 60)
   multiple-of-4 =
-      let all = length-written (headerOf k ports) (optionsOf k clock) in
-      let options = length-options (optionsOf k clock) in
-      let few = units-most (optionsOf k clock) in
+      let all = length-written (ownHeader k ports) (ownOptions k clock) in
+      let options = length-options (ownOptions k clock) in
+      let few = units-most (ownOptions k clock) in
       by-cases (λ x. (x .length ≡ 4 * (x .length / 4)) × (x .length ≤ 60)) (λ back. (refl, omega arith)) (λ on short. (refl, omega arith))
       (λ on room. (omega arith, omega arith))

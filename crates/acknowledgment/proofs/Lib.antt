@@ -1,4 +1,5 @@
 pub mod Answers
 mod First
 pub mod ReadBack
+pub mod Said
 pub mod Window

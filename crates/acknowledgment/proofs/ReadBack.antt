@@ -1,7 +1,7 @@
 -- An acknowledgment that is written is read back by our reader to the same fields, with all its SACK blocks. Assumes nothing.
 use mathlib.Core.Bool.{Bool, true, false, cond}
 use mathlib.Core.List.{List, [], _++_}
-use mathlib.Core.Path.{_≡_, refl, ap, _∙_}
+use mathlib.Core.Path.{_≡_, refl, sym, ap, _∙_}
 use Prim.Native.Nat.{ℕ, _≤_}
 use native.Mathlib.Omega.{arith}
 use lib.ListN.{length, length-take, take}
@@ -21,8 +21,8 @@ use Rattle.writer.proofs.Lengths.{fits, length-written}
 use Rattle.writer.proofs.ReadBack.{buffer-read-back}
 use Rattle.receive.specs.Ranges.{rangesOf}
 use Rattle.connection.specs.declared.Connection.{Connection}
-use Rattle.acknowledgment.specs.Acknowledgment.{acknowledging, blocksOf, headerOf, optionsOf, timestampsOf}
-use Rattle.acknowledgment.specs.ReadBack.{octetsOf, segmentOf}
+use Rattle.acknowledgment.specs.Acknowledgment.{acknowledging, onlyAck, ownBlocks, ownHeader, ownOptions, ownTimestamps, windowField}
+use Rattle.acknowledgment.specs.ReadBack.{ownOctets, ownSegment}
 
 -- room for so many blocks beside the timestamps
 stamps-room : (active : Bool) (value echoed : Stamp)
@@ -37,35 +37,53 @@ most-four false = omega arith
 
 module _ (k : Connection) (ports : Ports) (clock : ℕ) where
   abbrev options : Options
-  options = optionsOf k clock
+  options = ownOptions k clock
 
-  blocks-most : length (blocksOf k) ≤ cond (k .timestamping .active) 3 4
-  unfolding blocksOf
+  blocks-most : length (ownBlocks k) ≤ cond (k .timestamping .active) 3 4
+  unfolding ownBlocks
   blocks-most =
       let n : ℕ = cond (k .timestamping .active) 3 4 in
       either (λ (l : List Range). length l ≤ n) (k .sack) _ _ (λ _. omega (arith, length-take n (rangesOf (k .receive .held)))) (λ _. omega arith)
 
   blocks-room : blockRoom (length (othersWritten options)) ≡ cond (k .timestamping .active) 3 4
-  unfolding othersWritten optionsOf mssWritten scaleWritten timestampsOf
+  unfolding othersWritten ownOptions mssWritten scaleWritten ownTimestamps
   blocks-room = stamps-room (k .timestamping .active) _ _
 
   -- the blocks that are read are all that the record shows
-  pub all-blocks : blockList (segmentOf k ports clock .options .blocks) ≡ blocksOf k
-  unfolding segmentOf optionsOf
-  all-blocks = list-back (blocksOf k) (omega (arith, blocks-most, most-four (k .timestamping .active)))
+  pub all-blocks : blockList (ownSegment k ports clock .options .blocks) ≡ ownBlocks k
+  unfolding ownSegment ownOptions
+  all-blocks = list-back (ownBlocks k) (omega (arith, blocks-most, most-four (k .timestamping .active)))
 
-  none-cut : blocksOfList (fitting options) ≡ options .blocks
-  unfolding segmentOf
-  none-cut =
-      let few : length (blockList (options .blocks)) ≤ blockRoom (length (othersWritten options)) =
-      omega (arith, blocks-room, ap length all-blocks, blocks-most) in
-      ap blocksOfList (fits options few) ∙ blocks-back (options .blocks)
+  -- and none is left out for want of room
+  pub none-left-out : fitting options ≡ blockList (options .blocks)
+  unfolding ownSegment
+  none-left-out = fits options (omega (arith, blocks-room, ap length all-blocks, blocks-most))
 
-  segment-is : segmentWritten (headerOf k ports) options ≡ segmentOf k ports clock
-  unfolding segmentWritten segmentOf headerOf optionsOf
-  segment-is = rw (none-cut, ← length-written (headerOf k ports) options)
+  segment-is : segmentWritten (ownHeader k ports) options ≡ ownSegment k ports clock
+  unfolding segmentWritten ownSegment ownHeader ownOptions
+  segment-is =
+      let blocks = ap blocksOfList none-left-out ∙ blocks-back (options .blocks) in
+      let size = length-written (ownHeader k ports) options in
+      λ i. record {
+        source = ports .source;
+        destination = ports .destination;
+        seq = k .send .nxt;
+        ack = k .receive .nxt;
+        flags = onlyAck;
+        window = windowField (k .receive);
+        urgent = 0;
+        options = record {
+          mss = options .mss;
+          scale = options .scale;
+          permitted = options .permitted;
+          blocks = blocks i;
+          timestamps = options .timestamps;
+        };
+        payload = record { start = sym size i; length = 0 };
+        len = 0;
+      }
 
-  pub read-back : (buffer : List ℕ) → k .timestamping .since ≤ clock → length (octetsOf k ports clock) ≤ length buffer
-      → reading (take (acknowledging k ports clock buffer .length) (acknowledging k ports clock buffer .buffer)) ≡ readAs (segmentOf k ports clock)
+  pub read-back : (buffer : List ℕ) → k .timestamping .since ≤ clock → length (ownOctets k ports clock) ≤ length buffer
+      → reading (take (acknowledging k ports clock buffer .length) (acknowledging k ports clock buffer .buffer)) ≡ readAs (ownSegment k ports clock)
   unfolding acknowledging
-  read-back buffer on room = simp (le-ltb _ _ on) (buffer-read-back (headerOf k ports) options buffer room ∙ ap readAs segment-is)
+  read-back buffer on room = simp (le-ltb _ _ on) (buffer-read-back (ownHeader k ports) options buffer room ∙ ap readAs segment-is)

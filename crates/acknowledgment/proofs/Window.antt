@@ -8,6 +8,10 @@ use Rattle.receive.specs.Sound.{Sound}
 use Rattle.receive.specs.declared.Receive.{Receive}
 use Rattle.acknowledgment.specs.Acknowledgment.{windowField}
 
+pub window-most : (r : Receive) → windowField r ≤ 65535
+unfolding windowField
+window-most r = omega arith
+
 module _ (r : Receive) (sound : Sound r) where
   abbrev unit : ℕ
   unit = 2 ^ (r .shift)

@@ -32,25 +32,25 @@ unfoldable pub windowField : Receive → ℕ
 windowField r = min (r .window / 2 ^ (r .shift)) 65535
 
 -- SEQ = SND.NXT, ACK = RCV.NXT
-unfoldable pub headerOf : Connection → Ports → Header
-headerOf k ports = record { ports = ports; seq = k .send .nxt; ack = k .receive .nxt; flags = onlyAck; window = windowField (k .receive) }
+unfoldable pub ownHeader : Connection → Ports → Header
+ownHeader k ports = record { ports = ports; seq = k .send .nxt; ack = k .receive .nxt; flags = onlyAck; window = windowField (k .receive) }
 
 -- TSval is our timestamp and TSecr = TS.Recent, if timestamps are in force
-unfoldable pub timestampsOf : Timestamping → ℕ → Timestamps
-timestampsOf t clock = cond (t .active) (Timestamps.Pair (record { 0 = stampAt clock (t .offset) }) (t .recent)) Timestamps.Absent
+unfoldable pub ownTimestamps : Timestamping → ℕ → Timestamps
+ownTimestamps t clock = cond (t .active) (Timestamps.Pair (record { 0 = stampAt clock (t .offset) }) (t .recent)) Timestamps.Absent
 
 -- the first n ranges, newest first, if SACK is in force: n is at most 3 with timestamps, 4 without
-unfoldable pub blocksOf : Connection → List Range
-blocksOf k = cond (k .sack) (take (cond (k .timestamping .active) 3 4) (rangesOf (k .receive .held))) []
+unfoldable pub ownBlocks : Connection → List Range
+ownBlocks k = cond (k .sack) (take (cond (k .timestamping .active) 3 4) (rangesOf (k .receive .held))) []
 
 -- no other option
-unfoldable pub optionsOf : Connection → ℕ → Options
-optionsOf k clock = record {
+unfoldable pub ownOptions : Connection → ℕ → Options
+ownOptions k clock = record {
   mss = Mss.Absent;
   scale = WindowScale.Absent;
   permitted = false;
-  blocks = writer.blocksOfList (blocksOf k);
-  timestamps = timestampsOf (k .timestamping) clock;
+  blocks = writer.blocksOfList (ownBlocks k);
+  timestamps = ownTimestamps (k .timestamping) clock;
 }
 
 -- an answer in document 01's terms: 0 and how many octets were written, or the refusal's number and 0; the buffer and the record afterwards
@@ -60,7 +60,7 @@ pub record Answer : Type 0 where
   pub buffer : List ℕ
   pub connection : Connection
 
--- a refusal's number alone: the buffer and the record are those handed in
+-- a refusal's number alone: the buffer and the record stay
 abbrev pub refused : ℕ → List ℕ → Connection → Answer
 refused n buffer k = record { number = n; length = 0; buffer = buffer; connection = k }
 
@@ -71,7 +71,7 @@ answeredBy k w = record { number = w .number; length = w .length; buffer = w .bu
 -- E8, then E7
 unfoldable pub acknowledging : Connection → Ports → ℕ → List ℕ → Answer
 acknowledging k ports clock buffer =
-    cond (ltb clock (k .timestamping .since)) (refused 8 buffer k) (answeredBy k (writer.writing (headerOf k ports) (optionsOf k clock) buffer))
+    cond (ltb clock (k .timestamping .since)) (refused 8 buffer k) (answeredBy k (writer.writing (ownHeader k ports) (ownOptions k clock) buffer))
 
 -- document 01's number of each refusal and outcome
 abbrev pub refusalNumber : AckRefusal → ℕ

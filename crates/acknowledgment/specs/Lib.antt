@@ -1,3 +1,2 @@
 pub mod Acknowledgment
 pub mod ReadBack
-pub mod Vectors

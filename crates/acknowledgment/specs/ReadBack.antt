@@ -6,15 +6,15 @@ use Rattle.segment.specs.declared.Segment.{Segment}
 use Rattle.writer.specs.Writing.{written}
 use Rattle.writer.specs.declared.Ports.{Ports}
 use Rattle.connection.specs.declared.Connection.{Connection}
-use Rattle.acknowledgment.specs.Acknowledgment.{headerOf, onlyAck, optionsOf, windowField}
+use Rattle.acknowledgment.specs.Acknowledgment.{ownHeader, onlyAck, ownOptions, windowField}
 
 -- the octets of the acknowledgment
-abbrev pub octetsOf : Connection → Ports → ℕ → List ℕ
-octetsOf k ports clock = written (headerOf k ports) (optionsOf k clock)
+abbrev pub ownOctets : Connection → Ports → ℕ → List ℕ
+ownOctets k ports clock = written (ownHeader k ports) (ownOptions k clock)
 
 -- every field, and no payload
-unfoldable pub segmentOf : Connection → Ports → ℕ → Segment
-segmentOf k ports clock = record {
+unfoldable pub ownSegment : Connection → Ports → ℕ → Segment
+ownSegment k ports clock = record {
   source = ports .source;
   destination = ports .destination;
   seq = k .send .nxt;
@@ -22,7 +22,7 @@ segmentOf k ports clock = record {
   flags = onlyAck;
   window = windowField (k .receive);
   urgent = 0;
-  options = optionsOf k clock;
-  payload = record { start = length (octetsOf k ports clock); length = 0 };
+  options = ownOptions k clock;
+  payload = record { start = length (ownOctets k ports clock); length = 0 };
   len = 0;
 }

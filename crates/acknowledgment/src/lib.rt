@@ -1,4 +1,4 @@
-// Acknowledgments: what a record tells the peer, written into a buffer.
+// Acknowledgments: what a record says to the peer, written into a buffer.
 ghost use mathlib.Core.Path.{_≡_};
 ghost use Prim.Native.Nat.{_≤_, min};
 ghost use lib.ListN.{take};
@@ -7,7 +7,7 @@ ghost use Rattle.receive.specs.Ranges.{rangesOf};
 ghost use Rattle.receive.specs.Sound.{Canonical};
 ghost use Rattle.connection.specs.Operations.{acknowledged};
 ghost use Rattle.connection.specs.Record.{Sound};
-ghost use Rattle.acknowledgment.specs.Acknowledgment.{acknowledging, blocksOf, headerOf, optionsOf, outcomeNumber, refusalNumber, shown, timestampsOf, windowField};
+ghost use Rattle.acknowledgment.specs.Acknowledgment.{acknowledging, outcomeNumber, ownBlocks, ownHeader, ownOptions, ownTimestamps, refusalNumber, shown, windowField};
 use connection::Connection;
 use receive::Held;
 use receive::Receive;
@@ -37,7 +37,7 @@ pub enum AckOutcome {
     Refused(AckRefusal),
 }
 
-// Where the acknowledgment is refused, the connection is the one handed in.
+// Where the acknowledgment is refused, the connection is the one that was passed.
 pub struct AckAnswer {
     pub outcome: AckOutcome,
     pub connection: Connection,
@@ -79,9 +79,9 @@ fn window_field(r: Receive) -> u16
     65_535
 }
 
-fn header_of(k: Connection, ports: Ports) -> Header
+fn own_header(k: Connection, ports: Ports) -> Header
     requires { ⌜ Sound k ⌝ }
-    ensures { λ r. ⌜ r ≡ headerOf k ports ⌝ }
+    ensures { λ r. ⌜ r ≡ ownHeader k ports ⌝ }
 {
     let window = window_field(k.receive);
     let seq = k.send.nxt;
@@ -105,8 +105,8 @@ fn header_of(k: Connection, ports: Ports) -> Header
     }
 }
 
-fn timestamps_of(t: Timestamping, clock: u64) -> Timestamps
-    ensures { λ r. ⌜ r ≡ timestampsOf t clock ⌝ }
+fn own_timestamps(t: Timestamping, clock: u64) -> Timestamps
+    ensures { λ r. ⌜ r ≡ ownTimestamps t clock ⌝ }
 {
     if t.active {
         let value = Stamp::at(clock, t.offset);
@@ -148,9 +148,9 @@ fn first_ranges(held: Held, most: usize) -> SackBlocks
 }
 
 // Three ranges have room beside timestamps, and four without them.
-fn blocks_of(k: Connection) -> SackBlocks
+fn own_blocks(k: Connection) -> SackBlocks
     requires { ⌜ Sound k ⌝ }
-    ensures { λ r. ⌜ blockList r ≡ blocksOf k ⌝ }
+    ensures { λ r. ⌜ blockList r ≡ ownBlocks k ⌝ }
 {
     if !k.sack {
         return SackBlocks::Absent;
@@ -162,12 +162,12 @@ fn blocks_of(k: Connection) -> SackBlocks
     first_ranges(held, 4)
 }
 
-fn options_of(k: Connection, clock: u64) -> Options
+fn own_options(k: Connection, clock: u64) -> Options
     requires { ⌜ Sound k ⌝ }
-    ensures { λ r. ⌜ r ≡ optionsOf k clock ⌝ }
+    ensures { λ r. ⌜ r ≡ ownOptions k clock ⌝ }
 {
-    let blocks = blocks_of(k);
-    let timestamps = timestamps_of(k.timestamping, clock);
+    let blocks = own_blocks(k);
+    let timestamps = own_timestamps(k.timestamping, clock);
     let mss = Mss::Absent;
     let scale = WindowScale::Absent;
     Options {
@@ -207,8 +207,8 @@ pub fn write(k: Connection, ports: Ports, clock: u64, buffer: &mut [u8]) -> AckA
     if clock < k.timestamping.since {
         return refused(k, AckRefusal::ClockBack);
     }
-    let header = header_of(k, ports);
-    let options = options_of(k, clock);
+    let header = own_header(k, ports);
+    let options = own_options(k, clock);
     let writing = writer::write(header, options, buffer);
     match writing {
         Writing::BufferTooShort => refused(k, AckRefusal::BufferTooShort),

@@ -1,10 +1,10 @@
 -- Laws of the lists of `specs/Lists.antt`. Assumes nothing.
-use mathlib.Core.Bool.{Bool, true, false, cond, not, _||_, false≢true}
-use mathlib.Core.List.{List, [], _∷_}
-use mathlib.Core.Path.{_≡_, refl, ap}
-use Prim.Native.Nat.{_≤_, _<_}
+use mathlib.Core.Bool.{Bool, true, false, cond, not, _||_, false≢true, or-assoc}
+use mathlib.Core.List.{List, [], _∷_, _++_, append-nil, reverse, reverse-cons}
+use mathlib.Core.Path.{_≡_, refl, sym, ap, _∙_}
+use Prim.Native.Nat.{ℕ, zero, suc, _≤_, _<_}
 use native.Mathlib.Omega.{arith}
-use lib.ListN.{length}
+use lib.ListN.{drop, length, take, take-append-drop}
 use Rattle.laws.specs.Lists.{Each, EachTwo, any, filter}
 use Rattle.laws.specs.Lists.Each.{none, more}
 use Rattle.laws.specs.Lists.EachTwo.{no-two, more-two}
@@ -88,3 +88,46 @@ module _ {A : Type 0} (p : A → Bool) where
   pub filter-others : {l : List A} → Each (λ x. p x ≡ false) l → others p l ≡ l
   filter-others none = refl
   filter-others (more {x} h e) = rw h (ap (λ l. x ∷ l) (filter-others e))
+
+-- what holds of each element of two lists, and of the first n and the rest
+module _ {A : Type 0} {P : A → Type 0} where
+  pub each-append : {l m : List A} → Each P l → Each P m → Each P (l ++ m)
+  each-append none d = d
+  each-append (more h e) d = more h (each-append e d)
+
+  pub each-take : (n : ℕ) {l : List A} → Each P l → Each P (take n l)
+  each-take zero e = none
+  each-take (suc n) none = none
+  each-take (suc n) (more h e) = more h (each-take n e)
+
+  pub each-drop : (n : ℕ) {l : List A} → Each P l → Each P (drop n l)
+  each-drop zero e = e
+  each-drop (suc n) none = none
+  each-drop (suc n) (more h e) = each-drop n e
+
+-- those that pass the test p, in two lists, in the first n and the rest, and in the order reversed
+module _ {A : Type 0} (p : A → Bool) where
+  pub filter-append : (l m : List A) → filter p (l ++ m) ≡ filter p l ++ filter p m
+  filter-append [] m = refl
+  filter-append (x ∷ l) m = pick (p x) (filter-append l m)
+    where
+      pick : (b : Bool) → filter p (l ++ m) ≡ filter p l ++ filter p m
+          → cond b (x ∷ filter p (l ++ m)) (filter p (l ++ m)) ≡ cond b (x ∷ filter p l) (filter p l) ++ filter p m
+      pick true e = ap (λ k. x ∷ k) e
+      pick false e = e
+
+  pub filter-split : (n : ℕ) (l : List A) → filter p l ≡ filter p (take n l) ++ filter p (drop n l)
+  filter-split n l = ap (filter p) (sym (take-append-drop n l)) ∙ filter-append (take n l) (drop n l)
+
+  pub filter-reverse : (l : List A) → filter p (reverse l) ≡ reverse (filter p l)
+  filter-reverse [] = refl
+  filter-reverse (x ∷ l) =
+      ap (filter p) (reverse-cons x l) ∙ filter-append (reverse l) (x ∷ []) ∙ ap (λ k. k ++ filter p (x ∷ [])) (filter-reverse l) ∙ pick (p x)
+    where
+      pick : (b : Bool) → reverse (filter p l) ++ cond b (x ∷ []) [] ≡ reverse (cond b (x ∷ filter p l) (filter p l))
+      pick true = sym (reverse-cons x (filter p l))
+      pick false = append-nil (reverse (filter p l))
+
+  pub any-append : (l m : List A) → any p (l ++ m) ≡ any p l || any p m
+  any-append [] m = refl
+  any-append (x ∷ l) m = ap (λ b. p x || b) (any-append l m) ∙ sym (or-assoc (p x) (any p l) (any p m))

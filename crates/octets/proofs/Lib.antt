@@ -1,4 +1,5 @@
+pub mod HighestFirst
+pub mod OctetsBack
 mod Parts
-mod Past
 pub mod ReadBack
 pub mod Stores

@@ -4,21 +4,15 @@ use native.Mathlib.Nat.{div-one, div-add-mod'}
 use native.Mathlib.Omega.{arith}
 use mathlib.Core.Path.{_≡_, refl, sym, ap, _∙_}
 use mathlib.Core.List.{List, [], _∷_, _++_, append-assoc}
-use lib.ListN.{drop, getD, length, take}
+use lib.ListN.{drop, length, take}
 use lib.Seq.{length-take-le, sets, sets-eq}
 use Rattle.octets.specs.Octets.{bigEndian, numberAt}
+use Rattle.octets.proofs.HighestFirst.{numberAt-after}
 
 pub length-bigEndian : (w n : ℕ) → length (bigEndian w n) ≡ w
 unfolding bigEndian
 length-bigEndian zero n = refl
 length-bigEndian (suc w) n = ap suc (length-bigEndian w (n % 256 ^ w))
-
--- what stands in front of a place does not matter to the number there
-numberAt-after : (w at : ℕ) (x : ℕ) (octets : List ℕ) → numberAt w (x ∷ octets) (suc at) ≡ numberAt w octets at
-unfolding numberAt
-numberAt-after zero at x octets = refl
-numberAt-after (suc w) at x octets =
-    ap (λ (lower : ℕ). getD octets at 0 * 256 ^ w + lower) (numberAt-after w (suc at) x octets)
 
 pub numberAt-within : (w : ℕ) (front octets : List ℕ) → numberAt w (front ++ octets) (length front) ≡ numberAt w octets 0
 numberAt-within w [] octets = refl

@@ -1,11 +1,12 @@
 -- Octets stored one after the other, `sets` of `lib.Seq`, which leaves out those past the end of the list. Assumes nothing.
-use mathlib.Core.Path.{_≡_, refl, ap, _∙_}
-use mathlib.Core.List.{List, [], _∷_, _++_}
+use mathlib.Core.Path.{_≡_, refl, sym, ap, _∙_}
+use mathlib.Core.List.{List, [], _∷_, _++_, append-nil}
 use Prim.Native.Nat.{ℕ, suc, _+_, _≤_}
 use native.Mathlib.Nat.{add-zero}
 use native.Mathlib.Omega.{arith}
-use lib.ListN.{drop, length, set}
-use lib.Seq.{set-out, sets, sets-eq}
+use lib.ListN.{drop, drop-of-length-le, length, length-append, length-drop, set, take}
+use lib.Seq.{drop-append-seam, length-sets, set-out, sets, sets-eq, take-append-seam}
+use Rattle.octets.specs.Octets.{stored}
 
 -- past the end nothing is stored
 pub sets-out : (l : List ℕ) (i : ℕ) (vs : List ℕ) → length l ≤ i → sets l i vs ≡ l
@@ -23,8 +24,24 @@ pub sets-then : (l : List ℕ) {k m : List ℕ} (i : ℕ) (xs ys : List ℕ) →
 sets-then l i xs ys first second =
     second ∙ ap (λ (n : List ℕ). sets n (i + length xs) ys) first ∙ sets-append l i xs ys
 
--- at the start, with room for them: what follows them stays
-pub sets-front : (l xs : List ℕ) → length xs ≤ length l → sets l 0 xs ≡ xs ++ drop (length xs) l
-sets-front l xs room =
-    let place : 0 + length xs ≡ length xs = omega arith in
-    sets-eq xs l 0 (omega arith) ∙ ap (λ (n : ℕ). xs ++ drop n l) place
+-- where the octets xs reach the end, those after them are left out
+pub sets-cut : (l : List ℕ) (i : ℕ) (xs ys : List ℕ) → i + length xs ≡ length l → sets l i (xs ++ ys) ≡ take i l ++ xs
+sets-cut l i xs ys end =
+    sym (sets-append l i xs ys) ∙ sets-out (sets l i xs) (i + length xs) ys (omega (arith, length-sets l i xs))
+    ∙ sets-eq xs l i (omega arith) ∙ ap (λ (k : List ℕ). (take i l ++ xs) ++ k) (drop-of-length-le l {i = i + length xs} (omega arith)) ∙ append-nil (take i l ++ xs)
+
+-- Octets at the start of a buffer with room for them.
+module _ (octets buffer : List ℕ) where
+  pub sets-front : length octets ≤ length buffer → sets buffer 0 octets ≡ stored octets buffer
+  sets-front room =
+      let place : 0 + length octets ≡ length octets = omega arith in
+      sets-eq octets buffer 0 (omega arith) ∙ ap (λ (n : ℕ). octets ++ drop n buffer) place
+
+  pub first-stored : take (length octets) (stored octets buffer) ≡ octets
+  first-stored = take-append-seam octets (drop (length octets) buffer)
+
+  pub later-stored : drop (length octets) (stored octets buffer) ≡ drop (length octets) buffer
+  later-stored = drop-append-seam octets (drop (length octets) buffer)
+
+  pub length-stored : length octets ≤ length buffer → length (stored octets buffer) ≡ length buffer
+  length-stored room = simp (length-append, length-drop) (omega arith)

@@ -57,7 +57,7 @@ aligned-sack (b ∷ bs) m least few =
     record { whole = omega (arith, length-blocks (b ∷ bs)); most = omega (arith, length-blocks (b ∷ bs)) }
 
 module _ (o : Options) where
-  aligned-others : Aligned (othersWritten o) 20
+  pub aligned-others : Aligned (othersWritten o) 20
   unfolding othersWritten
   aligned-others =
       aligned-append (aligned-mss (o .mss)) (aligned-append (aligned-timestamps (o .permitted) (o .timestamps)) (aligned-scale (o .scale)))

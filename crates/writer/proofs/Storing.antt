@@ -8,13 +8,13 @@ use lib.ListN.{length, length-append, take}
 use lib.Seq.{sets}
 use Rattle.serial.specs.declared.Range.{Range}
 use Rattle.serial.specs.declared.Stamp.{Stamp}
-use Rattle.octets.specs.Octets.{bigEndian}
+use Rattle.octets.specs.Octets.{bigEndian, stored}
 use Rattle.octets.proofs.ReadBack.{length-bigEndian}
 use Rattle.octets.proofs.Stores.{sets-front, sets-then}
 use Rattle.segment.specs.Options.{blockList}
 use Rattle.segment.specs.declared.Options.{Options}
 use Rattle.segment.specs.declared.Timestamps.{Timestamps}
-use Rattle.writer.specs.Writing.{blockRoom, blocksWritten, fitting, headerWritten, mssWritten, optionsWritten, othersWritten, sackWritten, scaleWritten, stored, timestampsWritten, written}
+use Rattle.writer.specs.Writing.{blockRoom, blocksWritten, fitting, headerWritten, mssWritten, optionsWritten, othersWritten, sackWritten, scaleWritten, timestampsWritten, written}
 use Rattle.writer.specs.declared.Header.{Header}
 use Rattle.writer.proofs.Lengths.{aligned-options, length-header, length-written}
 
@@ -108,4 +108,4 @@ whole-stored h o l {k} {m} size e room first second =
     let units : size / 4 ≡ 5 + length (optionsWritten o) / 4 = omega (arith, e, length-written h o, aligned-options o .whole) in
     next-stored l 0 (headerWritten h (size / 4)) (optionsWritten o) 20 (omega (arith, length-header h (size / 4))) first second
     ∙ (λ i. sets l 0 (headerWritten h (units i) ++ optionsWritten o))
-    ∙ sets-front l (written h o) (omega arith)
+    ∙ sets-front (written h o) l (omega arith)

@@ -4,9 +4,9 @@ use Prim.Native.Nat.{ℕ, _+_, _-_, _*_, _/_}
 use mathlib.Core.Bool.{Bool, true, false, cond}
 use mathlib.Core.List.{List, [], _∷_, _++_}
 use lib.Dec.{ltb}
-use lib.ListN.{drop, length, take}
+use lib.ListN.{length, take}
 use Rattle.serial.specs.declared.Range.{Range}
-use Rattle.octets.specs.Octets.{bigEndian}
+use Rattle.octets.specs.Octets.{bigEndian, stored}
 use Rattle.segment.specs.Options.{blockList, oneToFour}
 use Rattle.segment.specs.Reading.{lenOf}
 use Rattle.segment.specs.declared.Flags.{Flags}
@@ -114,11 +114,7 @@ pub record Answer : Type 0 where
   pub length : ℕ
   pub buffer : List ℕ
 
--- the octets at the start of the buffer, and later octets stay
-abbrev pub stored : List ℕ → List ℕ → List ℕ
-stored octets buffer = octets ++ drop (length octets) buffer
-
--- E7: the buffer is shorter than what is to be written, and stays
+-- E7: the buffer is shorter than what is to be written, and stays; later octets stay
 unfoldable pub writing : Header → Options → List ℕ → Answer
 writing h o buffer =
     let octets = written h o in

@@ -16,8 +16,8 @@ answered : (p : tie.After-write) (v : Writing) → p .write .result ≡ v → le
     answeredBy (a .k) (shownWriting v (p .write .last .1 .1 .0)) ≡ acknowledging (a .k) (a .ports) (a .clock) (now (a .buffer))
 answered p v same =
     let a = p .before .before .before .before .before .before .before .args in
-    by-writing (a .k) (a .ports) (a .clock) (now (a .buffer)) (omega (arith, p .before .before .before .before .if1 .left)) (p .before .before .before .header-of .result) (p .before .before .options-of .result)
-    (p .before .before .before .header-of .ensures) (p .before .before .options-of .ensures) (p .write .result) v same _ (p .write .ensures)
+    by-writing (a .k) (a .ports) (a .clock) (now (a .buffer)) (omega (arith, p .before .before .before .before .if1 .left)) (p .before .before .before .own-header .result) (p .before .before .own-options .result)
+    (p .before .before .before .own-header .ensures) (p .before .before .own-options .ensures) (p .write .result) v same _ (p .write .ensures)
 
 refused-requires : tie.Need-refused-requires
 refused-requires c κs = search needs
@@ -28,11 +28,11 @@ returns c =
     let a = s .args in
     rw (c .refused .ensures) (sym (clock-back-if (a .k) (a .ports) (a .clock) (now (a .buffer)) (omega (arith, c .before .if1 .taken))), s .pre)
 
-header-of-requires : tie.Need-header-of-requires
-header-of-requires c κs = search needs
+own-header-requires : tie.Need-own-header-requires
+own-header-requires c κs = search needs
 
-options-of-requires : tie.Need-options-of-requires
-options-of-requires c κs = search needs
+own-options-requires : tie.Need-own-options-requires
+own-options-requires c κs = search needs
 
 write-requires : tie.Need-write-requires
 write-requires c κs = search needs
@@ -73,8 +73,8 @@ write-spec =
     (tie.spec
     refused-requires
     returns
-    header-of-requires
-    options-of-requires
+    own-header-requires
+    own-options-requires
     write-requires
     enum-told
     refused-requires-2

@@ -7,7 +7,7 @@ use denote.Ref.{now}
 use borrow.Author.Needs.{needs}
 use borrow.Author.Tests.{leb-true}
 use Rattle.octets.proofs.Parts.{read-halves}
-use Rattle.octets.proofs.Past.{numberAt-past}
+use Rattle.octets.proofs.HighestFirst.{numberAt-past}
 use Rattle.octets.proofs.read_u32.Statement.{statement}
 use Rattle.octets.proofs.read_u32.Tie as tie
 
