@@ -1,12 +1,14 @@
 mod Blocks
 mod ByOctet
 pub mod FlagsRead
+pub mod FoundOption
 mod Gathering
 pub mod Induction
 pub mod Inside
 mod Judging
 mod Listed
 pub mod LowKinds
+mod Membership
 pub mod OptionsRead
 mod Outcomes
 pub mod Readable

@@ -10,7 +10,7 @@ use lib.ListN.{getD, length}
 use borrow.Author.Tests.{eqb-true, le-ltb, ltb-false, ne-eqb}
 use Rattle.laws.proofs.Choices.{neither}
 use Rattle.segment.specs.Options.{blockList, faultIn, nothing, optionIn, optionsOf}
-use Rattle.segment.specs.Reading.{Answer, dataOffset, flagsOf, foundOption, numberOf, optionsRead, readAs, reading, refused, segmentOf, stepsOf, withFields}
+use Rattle.segment.specs.Reading.{Answer, dataOffset, flagsOf, foundOption, matching, numberOf, optionsRead, readAs, reading, refused, segmentOf, stepsOf, withFields}
 use Rattle.segment.specs.Readable.{Readable}
 use Rattle.segment.specs.declared.Flags.{Flags}
 use Rattle.segment.specs.declared.Options.{Options}
@@ -136,6 +136,6 @@ module _ (s kinds : List ℕ) where
   unfolding foundOption
   found-none why e = rw e (simp (ne-eqb _ _ (number-some why)))
 
-  pub found-some : (w : Segment) → reading s ≡ readAs w → foundOption s kinds ≡ optionIn kinds (stepsOf s)
+  pub found-some : (w : Segment) → reading s ≡ readAs w → foundOption s kinds ≡ optionIn (matching kinds) (stepsOf s)
   unfolding foundOption
   found-some w e = rw e
