@@ -30,6 +30,10 @@ pub record First (kinds : List ℕ) (steps : List Step) (at : ℕ) (octets : Lis
   pub none-before : NoneListed kinds before
   pub listed : List·Memᴰ (getD octets 0 0) kinds
 
+pub first-there : (kinds : List ℕ) (steps : List Step) (at : ℕ) (octets : List ℕ) → First kinds steps at octets → List·Memᴰ (whole at octets) steps
+first-there kinds steps at octets f =
+    subst (List·Memᴰ (whole at octets)) (sym (f .stands)) (Memᴰ·append-right (f .before) (List·Memᴰ·head refl))
+
 abbrev isOption : Step → Bool
 isOption (nop at) = false
 isOption (end at) = false
@@ -110,7 +114,7 @@ module _ (kinds : List ℕ) where
       go false e rest = passes-over (whole a x) later (λ at octets same m. true≢false (sym (ap (λ (k : ℕ). standsIn k kinds) (sym (ap kindOf same)) ∙ stands-if (getD octets 0 0) kinds m) ∙ e)) (simp e) rest
 
   -- the one that is found is the first
-  only-first : (steps : List Step) (at : ℕ) (octets : List ℕ) → optionIn kinds steps ≡ found at octets → First kinds steps at octets
+  pub only-first : (steps : List Step) (at : ℕ) (octets : List ℕ) → optionIn kinds steps ≡ found at octets → First kinds steps at octets
   unfolding Sought
   only-first steps at octets e = go (sought steps)
     where
@@ -121,17 +125,15 @@ module _ (kinds : List ℕ) where
           subst (λ (k : ℕ). First kinds steps k octets) (ap placeOf same) (subst (First kinds steps a) (ap octetsOf same) f)
 
   -- none is found exactly if none is listed
-  nothing-if : (steps : List Step) → NoneListed kinds steps → optionIn kinds steps ≡ nothing
+  pub nothing-if : (steps : List Step) → NoneListed kinds steps → optionIn kinds steps ≡ nothing
   unfolding Sought
   nothing-if steps none = go (sought steps)
     where
       go : Sought steps → optionIn kinds steps ≡ nothing
       go (inl n) = n .1
-      go (inr (a, o, f)) =
-          let there : List·Memᴰ (whole a o) (f .before ++ (whole a o ∷ f .after)) = Memᴰ·append-right (f .before) (List·Memᴰ·head refl) in
-          absurd (none a o (subst (List·Memᴰ (whole a o)) (sym (f .stands)) there) (f .listed))
+      go (inr (a, o, f)) = absurd (none a o (first-there kinds steps a o f) (f .listed))
 
-  nothing-only : (steps : List Step) → optionIn kinds steps ≡ nothing → NoneListed kinds steps
+  pub nothing-only : (steps : List Step) → optionIn kinds steps ≡ nothing → NoneListed kinds steps
   unfolding Sought
   nothing-only steps e = go (sought steps)
     where

@@ -1,5 +1,6 @@
 mod Blocks
 mod ByOctet
+pub mod Faults
 pub mod FlagsRead
 pub mod FoundOption
 mod Gathering
@@ -9,6 +10,7 @@ mod Judging
 mod Listed
 pub mod LowKinds
 mod Membership
+pub mod Numbers
 pub mod OptionsRead
 mod Outcomes
 pub mod Readable

@@ -2,11 +2,12 @@
 use mathlib.Core.Bool.{Bool, true, false, cond, _||_, true≢false}
 use mathlib.Core.List.{List, [], _∷_, List·Memᴰ, List·Memᴰ·head, List·Memᴰ·tail, List·Memᴰ·cases-cons, List·Memᴰ·not-nil}
 use mathlib.Core.Logic.{_⊎_, inl, inr}
-use mathlib.Core.Path.{_≡_, refl, sym, ap, _∙_}
-use Prim.Native.Nat.{ℕ, _≤_}
+use mathlib.Core.Path.{_≡_, refl, sym, ap, subst, _∙_}
+use Prim.Native.Nat.{ℕ, _≤_, _<_}
 use lib.Dec.{eqb, leb}
-use borrow.Author.Tests.{eq-eqb, eqb-true, le-leb, ne-eqb}
-use Rattle.laws.specs.Lists.{filter}
+use borrow.Author.Tests.{eq-eqb, eqb-true, le-leb, lt-leb, ne-eqb}
+use Rattle.laws.specs.Lists.{Each, filter}
+use Rattle.laws.specs.Lists.Each.{none, more}
 use Rattle.segment.specs.Options.{standsIn}
 
 pub stands-if : (n : ℕ) (l : List ℕ) → List·Memᴰ n l → standsIn n l ≡ true
@@ -29,10 +30,10 @@ stands-only n (x ∷ xs) e = go (eqb n x) refl e (stands-only n xs)
     go false same e rest = List·Memᴰ·tail (rest e)
 
 pub stands-not : (n : ℕ) (l : List ℕ) → (List·Memᴰ n l → ⊥) → standsIn n l ≡ false
-stands-not n l none = go (standsIn n l) refl
+stands-not n l absent = go (standsIn n l) refl
   where
     go : (t : Bool) → standsIn n l ≡ t → standsIn n l ≡ false
-    go true e = absurd (none (stands-only n l e))
+    go true e = absurd (absent (stands-only n l e))
     go false e = e
 
 -- those that pass the test p
@@ -67,3 +68,14 @@ module _ (p : ℕ → Bool) (n : ℕ) where
 -- those from a least one on
 pub stands-from : (least n : ℕ) (l : List ℕ) → least ≤ n → standsIn n (filter (leb least) l) ≡ standsIn n l
 stands-from least n l h = stands-passed (leb least) n l (le-leb least n h)
+
+pub below-out : (least n : ℕ) (l : List ℕ) → n < least → filter (leb least) (n ∷ l) ≡ filter (leb least) l
+below-out least n l h = simp (lt-leb least n h)
+
+pub of-each : {P : ℕ → Type 0} {l : List ℕ} {n : ℕ} → Each P l → List·Memᴰ n l → P n
+of-each none m = absurd (List·Memᴰ·not-nil m)
+of-each {P} {l} {n} (more {x} {xs} h e) m = go (List·Memᴰ·cases-cons m) (λ later. of-each e later)
+  where
+    go : (n ≡ x) ⊎ List·Memᴰ n xs → (List·Memᴰ n xs → P n) → P n
+    go (inl same) rest = subst P (sym same) h
+    go (inr later) rest = rest later
