@@ -4,6 +4,7 @@ pub mod Faults
 pub mod FlagsRead
 pub mod FoundOption
 mod Gathering
+pub mod HeaderRead
 pub mod Induction
 pub mod Inside
 mod Judging
@@ -11,6 +12,7 @@ mod Listed
 pub mod LowKinds
 mod Membership
 pub mod Numbers
+pub mod OptionValues
 pub mod OptionsRead
 mod Outcomes
 pub mod Readable

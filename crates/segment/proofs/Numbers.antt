@@ -165,3 +165,15 @@ module _ (s : List ℕ) where
 
   pub given : Given s (reading s .number)
   given = subst (Given s) (sym (given-only (some-number .0) (some-number .1))) (some-number .1)
+
+  -- a segment is read exactly if E1, E2 and E3 let it pass and no step has a fault
+  zero-only : (n : ℕ) → Given s n → n ≡ 0 → Faultless (stepsOf s)
+  zero-only n (too-short h) z = absurd (omega arith)
+  zero-only n (too-long h) z = absurd (omega arith)
+  zero-only n (offset-low long short h) z = absurd (omega arith)
+  zero-only n (offset-past long short least h) z = absurd (omega arith)
+  zero-only n (faulty p before step after m stands none j some) z = absurd (some z)
+  zero-only n (readable p none) z = none
+
+  pub faultless : reading s .number ≡ 0 → Faultless (stepsOf s)
+  faultless e = zero-only (reading s .number) given e
