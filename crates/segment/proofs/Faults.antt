@@ -1,18 +1,65 @@
 -- E4, E5, E6 at an option, in document 01's words: "option without length octet, length under 2, or past the header", "known kind, wrong
 -- length", "known kind a second time", in this order. Assumes nothing.
-use mathlib.Core.Bool.{Bool, true, false, cond, true≢false}
+use mathlib.Core.Bool.{Bool, true, false, cond, not, _&&_, _||_, true≢false}
 use mathlib.Core.List.{List, [], _∷_, map, List·Memᴰ, List·Memᴰ·head, List·Memᴰ·eq-of-singleton}
-use mathlib.Core.Path.{_≡_, refl, sym, _∙_}
-use Prim.Native.Nat.{ℕ}
-use lib.ListN.{getD, length}
-use borrow.Author.Tests.{not-false}
+use mathlib.Core.Path.{_≡_, refl, sym, ap, _∙_}
+use Prim.Native.Nat.{ℕ, _+_, _≤_, _<_}
+use native.Mathlib.Omega.{arith}
+use lib.Dec.{ltb}
+use lib.ListN.{drop, getD, length, take}
+use borrow.Author.Tests.{ltb-true, ne-eqb, not-false}
 use Rattle.laws.specs.Lists.{Each}
 use Rattle.laws.specs.Lists.Each.{none, more}
 use Rattle.laws.proofs.Choices.{both-true}
-use Rattle.segment.specs.Grammar.{Step, broken, end, nop, whole}
+use Rattle.segment.specs.Grammar.{Step, broken, end, isBroken, length-least, length-most, nop, option-rule, optionRule, padding-rule, paddingRule, whole}
 use Rattle.segment.specs.Options.{Found, faultAt, found, isFound, isKnown, isRepeated, isWrongLength, knownKinds, lengthsOf, nothing, optionOf, standsIn}
 use Rattle.segment.proofs.FoundOption.{first-there, nothing-only, only-first}
 use Rattle.segment.proofs.Membership.{of-each, stands-only}
+
+-- an option at the start of what is left of the header: without length octet, with a length under 2, or past the header
+pub data Broken (left : List ℕ) : Type 0 where
+  no-length-octet : length left < 2 → Broken left
+  length-under-two : getD left 1 0 < 2 → Broken left
+  past-header : length left < getD left 1 0 → Broken left
+
+broken-only : (left : List ℕ) → isBroken left ≡ true → Broken left
+unfolding isBroken
+broken-only left e = go (ltb (length left) 2) refl (ltb (getD left 1 0) 2) refl e
+  where
+    go : (t : Bool) → ltb (length left) 2 ≡ t → (u : Bool) → ltb (getD left 1 0) 2 ≡ u → t || (u || ltb (length left) (getD left 1 0)) ≡ true → Broken left
+    go true f u g e = no-length-octet (ltb-true _ _ f)
+    go false f true g e = length-under-two (ltb-true _ _ g)
+    go false f false g e = past-header (ltb-true _ _ e)
+
+whole-only : (left : List ℕ) → isBroken left ≡ false → Broken left → ⊥
+whole-only left e (no-length-octet h) = omega (arith, length-least left e, length-most left e)
+whole-only left e (length-under-two h) = omega (arith, length-least left e)
+whole-only left e (past-header h) = omega (arith, length-most left e)
+
+-- At a kind that is neither 0 nor 1 the rules read an option, broken or whole.
+module _ (at kind : ℕ) (rest : List ℕ) (two : 2 ≤ kind) where
+  abbrev left : List ℕ
+  left = kind ∷ rest
+
+  abbrev n : ℕ
+  n = getD left 1 0
+
+  by-option : paddingRule at left ≡ optionRule at left
+  by-option = padding-rule at kind rest ∙ simp (ne-eqb kind 0 (λ e. omega arith), ne-eqb kind 1 (λ e. omega arith))
+
+  pub broken-step : Broken left → paddingRule at left ≡ broken at ∷ []
+  broken-step b = go (isBroken left) refl
+    where
+      go : (t : Bool) → isBroken left ≡ t → paddingRule at left ≡ broken at ∷ []
+      go true e = by-option ∙ option-rule at left ∙ simp e
+      go false e = absurd (whole-only left e b)
+
+  pub whole-step : (Broken left → ⊥) → paddingRule at left ≡ whole at (take n left) ∷ paddingRule (at + n) (drop n left)
+  whole-step w = go (isBroken left) refl
+    where
+      go : (t : Bool) → isBroken left ≡ t → paddingRule at left ≡ whole at (take n left) ∷ paddingRule (at + n) (drop n left)
+      go true e = absurd (w (broken-only left e))
+      go false e = by-option ∙ option-rule at left ∙ simp e
 
 -- the lengths of the known kinds
 pub data RightLength : ℕ → ℕ → Type 0 where
@@ -103,7 +150,7 @@ unknown-right kind n unknown = go (isKnown kind) refl
   where
     go : (t : Bool) → isKnown kind ≡ t → (isWrongLength kind n ≡ false) × ((before : List Step) → isRepeated before kind ≡ false)
     go true e = absurd (unknown (known-only kind e))
-    go false e = (rw e, λ before. rw e)
+    go false e = (ap (λ (k : Bool). k && not (standsIn n (lengthsOf kind knownKinds))) e, λ before. ap (λ (k : Bool). k && isFound (optionOf kind before)) e)
 
 -- the kind stands before exactly if it is found there
 among-found : (kind : ℕ) (steps : List Step) → Among kind steps → isFound (optionOf kind steps) ≡ true
@@ -130,7 +177,7 @@ repeated-only before kind e =
 
 repeated-if : (before : List Step) (kind n : ℕ) → RightLength kind n → Among kind before → isRepeated before kind ≡ true
 unfolding isRepeated
-repeated-if before kind n r m = rw (right-known kind n r .0) (among-found kind before m)
+repeated-if before kind n r m i = right-known kind n r .0 i && among-found kind before m i
 
 repeated-not : (before : List Step) (kind : ℕ) → (Among kind before → ⊥) → isRepeated before kind ≡ false
 repeated-not before kind new = go (isRepeated before kind) refl
@@ -139,6 +186,12 @@ repeated-not before kind new = go (isRepeated before kind) refl
     go true e = absurd (new (repeated-only before kind e .1))
     go false e = e
 
+-- the number of a right length, by whether the kind repeats
+by-tests : (before : List Step) (at : ℕ) (octets : List ℕ) {r : Bool} → isWrongLength (getD octets 0 0) (length octets) ≡ false
+    → isRepeated before (getD octets 0 0) ≡ r → faultAt before (whole at octets) ≡ cond r 6 0
+unfolding faultAt
+by-tests before at octets e f i = cond (e i) 5 (cond (f i) 6 0)
+
 -- E4 before E5 before E6, and each exactly as document 01 says.
 pub judged-only : (before : List Step) (step : Step) (n : ℕ) → Judged before step n → faultAt before step ≡ n
 unfolding faultAt
@@ -146,15 +199,14 @@ judged-only before step n (nop-passed at) = refl
 judged-only before step n (end-passed at) = refl
 judged-only before step n (broken-option at) = refl
 judged-only before step n (wrong-length at octets known wrong) =
-    let five : faultAt before (whole at octets) ≡ 5 = simp (wrong-if (getD octets 0 0) (length octets) known wrong) in
-    five
+    ap (λ (w : Bool). cond w 5 (cond (isRepeated before (getD octets 0 0)) 6 0)) (wrong-if (getD octets 0 0) (length octets) known wrong)
 judged-only before step n (second-time at octets right m) =
-    simp (right-known (getD octets 0 0) (length octets) right .1, repeated-if before (getD octets 0 0) (length octets) right m)
+    by-tests before at octets (right-known _ _ right .1) (repeated-if before _ _ right m)
 judged-only before step n (first-time at octets right new) =
-    simp (right-known (getD octets 0 0) (length octets) right .1, repeated-not before (getD octets 0 0) new)
+    by-tests before at octets (right-known _ _ right .1) (repeated-not before _ new)
 judged-only before step n (unknown-kind at octets unknown) =
     let right = unknown-right (getD octets 0 0) (length octets) unknown in
-    simp (right .0, right .1 before)
+    by-tests before at octets (right .0) (right .1 before)
 
 pub judged : (before : List Step) (step : Step) → Judged before step (faultAt before step)
 unfolding faultAt

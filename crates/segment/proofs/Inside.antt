@@ -14,7 +14,7 @@ use borrow.Author.Tests.{eqb-true, ne-eqb}
 use Rattle.segment.specs.Grammar.{Step, isBroken, length-least, length-most, whole}
 use Rattle.segment.specs.Options.{Found, found, isFound, nothing, optionIn, standsIn}
 use Rattle.segment.specs.Internal.{placeOf}
-use Rattle.segment.specs.Part.{Inside, IsPart}
+use Rattle.segment.specs.Part.{Inside, IsPart, partOf}
 use Rattle.segment.specs.Reading.{dataOffset, foundOption, matching, optionOctets, reading, stepsOf}
 use Rattle.segment.proofs.Readable.{passed}
 use Rattle.segment.proofs.ByOctet.{options-there}
@@ -138,10 +138,10 @@ module _ (s kinds : List ℕ) (r : RefT (List ℕ)) (from : ℕ × ℕ) (p : IsP
   part-inside = go (foundOption s kinds) refl
     where
       go : (f : Found) → foundOption s kinds ≡ f → (now r ≡ []) ⊎ ((place : ℕ) × Inside s kinds place (now r) × (ptr r .0 ≡ from .0) × (ptr r .1 ≡ from .1 + place))
-      go nothing e = inl (p .0 ∙ rw e)
+      go nothing e = inl (p .0 ∙ ap (λ (f : Found). partOf f .1) e)
       go (found place octets) e =
-          let same : now r ≡ octets = p .0 ∙ rw e in
-          let there : ptr r .1 ≡ from .1 + place = p .2 ∙ rw e in
+          let same : now r ≡ octets = p .0 ∙ ap (λ (f : Found). partOf f .1) e in
+          let there : ptr r .1 ≡ from .1 + place = p .2 ∙ ap (λ (f : Found). from .1 + partOf f .0) e in
           inr (place, subst (Inside s kinds place) (sym same) (found-inside kinds s place octets e), p .1, there)
 
   pub part-empty : (reading s .number ≡ 0 → ⊥) → now r ≡ []

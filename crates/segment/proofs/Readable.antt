@@ -152,10 +152,12 @@ module _ (s : List ℕ) (w : Segment) (e : reading s ≡ readAs w) where
 
 -- An option is found in what is read, and none in what is refused.
 module _ (s kinds : List ℕ) where
-  pub found-none : (why : Refusal) → reading s ≡ refused (numberOf why) → foundOption s kinds ≡ nothing
+  by-number : (a : Answer Segment) → reading s ≡ a → foundOption s kinds ≡ cond (eqb (a .number) 0) (optionIn (matching kinds) (stepsOf s)) nothing
   unfolding foundOption
-  found-none why e = rw e (simp (ne-eqb _ _ (number-some why)))
+  by-number a e = ap (λ (x : Answer Segment). cond (eqb (x .number) 0) (optionIn (matching kinds) (stepsOf s)) nothing) e
+
+  pub found-none : (why : Refusal) → reading s ≡ refused (numberOf why) → foundOption s kinds ≡ nothing
+  found-none why e = by-number (refused (numberOf why)) e ∙ simp (ne-eqb _ _ (number-some why))
 
   pub found-some : (w : Segment) → reading s ≡ readAs w → foundOption s kinds ≡ optionIn (matching kinds) (stepsOf s)
-  unfolding foundOption
-  found-some w e = rw e
+  found-some w e = by-number (readAs w) e

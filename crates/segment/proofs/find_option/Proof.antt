@@ -47,8 +47,8 @@ first-listed-requires c κs = search needs
 returns : tie.Need-returns
 returns c =
     let a = c .before .before .before .before .before .before .args in
-    let told = c .before .enum-told .given in
-    rw (found-none (now (a .segment)) (now (a .kinds)) (told .0 .0) (sym (c .before .before .before .read .ensures) ∙ ap shown (told .1)))
+    let refusal = c .before .enum-told .given in
+    rw (found-none (now (a .segment)) (now (a .kinds)) (refusal .0 .0) (sym (c .before .before .before .read .ensures) ∙ ap shown (refusal .1)))
     (refl, refl, omega arith)
 
 returns-2 : tie.Need-returns-2

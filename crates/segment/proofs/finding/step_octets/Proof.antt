@@ -23,14 +23,14 @@ option-there c =
     let a = c .before .before .before .before .args in
     padding-option (now (a .header)) (a .at) (c .before .before .before .before .pre) (λ e. c .before .if1 .left (omega (arith, e))) (λ e. c .if2 .left (omega (arith, e)))
 
--- what is told of the option is told of the octets from there on
-told : (c : tie.After-is-broken) → let a = c .before .before .before .before .before .before .args in isBroken (drop (a .at) (now (a .header))) ≡ c .is-broken .result
-told c =
+-- what is said of the option is said of the octets from there on
+same-test : (c : tie.After-is-broken) → let a = c .before .before .before .before .before .before .args in isBroken (drop (a .at) (now (a .header))) ≡ c .is-broken .result
+same-test c =
     let a = c .before .before .before .before .before .before .args in
     sym (rw (to-the-end (a .at) (now (a .header))) at (c .is-broken .ensures))
 
 unbroken : (c : tie.Else3) → let a = c .before .before .before .before .before .before .before .args in isBroken (drop (a .at) (now (a .header))) ≡ false
-unbroken c = told (c .before) ∙ c .if3 .left
+unbroken c = same-test (c .before) ∙ c .if3 .left
 
 fits : (c : tie.Else3) → let a = c .before .before .before .before .before .before .before .args in
     let n = getD (now (a .header)) (a .at + 1) 0 in (2 ≤ n) × (a .at + n ≤ length (now (a .header)))
@@ -67,7 +67,7 @@ is-broken-requires c κs = search needs
 returns-3 : tie.Need-returns-3
 returns-3 c = record {
   within = omega arith;
-  finds = λ kinds. ap (optionIn (matching kinds)) (option-there (c .before .before .before)) ∙ broken-found (matching kinds) _ _ (told (c .before) ∙ c .if3 .taken);
+  finds = λ kinds. ap (optionIn (matching kinds)) (option-there (c .before .before .before)) ∙ broken-found (matching kinds) _ _ (same-test (c .before) ∙ c .if3 .taken);
 }
 
 add-result : tie.Need-add-result
