@@ -1,19 +1,21 @@
 -- Finding an option, in document 01's words: "the first option whose kind stands in that list comes back", and "No match or an unreadable
 -- segment gives an empty part". Each exactly if, over the steps of the two rules. Assumes nothing.
-use mathlib.Core.Bool.{Bool, true, false, cond, true≢false}
+use mathlib.Core.Bool.{Bool, true, false, true≢false}
 use mathlib.Core.List.{List, [], _∷_, _++_, List·Memᴰ, List·Memᴰ·head, List·Memᴰ·tail, List·Memᴰ·cases-cons, List·Memᴰ·not-nil, Memᴰ·append-right}
 use mathlib.Core.Logic.{_⊎_, inl, inr}
 use mathlib.Core.Path.{_≡_, refl, sym, ap, subst, _∙_}
-use Prim.Native.Nat.{ℕ, _≤_}
+use Prim.Native.Nat.{ℕ, _+_}
 use native.Mathlib.Omega.{arith}
 use lib.Dec.{eqb}
 use lib.ListN.{getD, take}
 use lib.Seq.{getD-take}
+use denote.Ref.{RefT, now, ptr}
 use borrow.Author.Tests.{eq-eqb, eqb-true}
 use Rattle.segment.specs.Grammar.{Step, broken, end, length-least, nop, whole}
-use Rattle.segment.specs.Options.{Found, found, isFound, nothing, optionIn, standsIn}
+use Rattle.segment.specs.Options.{Found, found, nothing, optionIn, standsIn}
 use Rattle.segment.specs.Reading.{foundOption, matching, reading, stepsOf}
 use Rattle.segment.specs.Internal.{placeOf}
+use Rattle.segment.specs.Part.{IsPart, partOf}
 use Rattle.segment.proofs.Induction.{Steps, along-rules}
 use Rattle.segment.proofs.Inside.{none-found, octetsOf}
 use Rattle.segment.proofs.Membership.{stands-if, stands-not, stands-only, stands-from}
@@ -62,20 +64,28 @@ module _ (kinds : List ℕ) where
   pub first-option : (steps : List Step) (at : ℕ) (octets : List ℕ) → First kinds steps at octets → optionIn kinds steps ≡ found at octets
   first-option steps at octets f = ap (optionIn kinds) (f .stands) ∙ first-in (f .before) (f .after) at octets (f .none-before) (f .listed)
 
-  -- a step that is not a listed option leaves what is sought to the later ones
-  module _ (step : Step) (later : List Step) (other : (at : ℕ) (octets : List ℕ) → whole at octets ≡ step → List·Memᴰ (getD octets 0 0) kinds → ⊥) where
-    none-more : NoneListed kinds later → NoneListed kinds (step ∷ later)
-    none-more none at octets m = go (List·Memᴰ·cases-cons m)
-      where
-        go : (whole at octets ≡ step) ⊎ List·Memᴰ (whole at octets) later → List·Memᴰ (getD octets 0 0) kinds → ⊥
-        go (inl same) = other at octets same
-        go (inr m) = none at octets m
+  -- a step that is no listed option
+  abbrev Other : Step → Type 0
+  Other step = (at : ℕ) (octets : List ℕ) → whole at octets ≡ step → List·Memᴰ (getD octets 0 0) kinds → ⊥
 
+  no-option : (step : Step) → isOption step ≡ false → Other step
+  no-option step e at octets same m = true≢false (ap isOption same ∙ e)
+
+  unlisted : (at : ℕ) (octets : List ℕ) → standsIn (getD octets 0 0) kinds ≡ false → Other (whole at octets)
+  unlisted at octets e a o same m = true≢false (sym (stands-if (getD o 0 0) kinds m) ∙ ap (λ (s : Step). standsIn (kindOf s) kinds) same ∙ e)
+
+  none-more : (step : Step) (later : List Step) → Other step → NoneListed kinds later → NoneListed kinds (step ∷ later)
+  none-more step later other none at octets m = go (List·Memᴰ·cases-cons m)
+    where
+      go : (whole at octets ≡ step) ⊎ List·Memᴰ (whole at octets) later → List·Memᴰ (getD octets 0 0) kinds → ⊥
+      go (inl same) = other at octets same
+      go (inr m) = none at octets m
+
+  -- either none is listed, and none is found, or one is the first
   Sought : List Step → Type 0
   Sought steps = (NoneListed kinds steps × (optionIn kinds steps ≡ nothing)) ⊎ ((at : ℕ) × (octets : List ℕ) × First kinds steps at octets)
 
-  passes-over : (step : Step) (later : List Step) → ((at : ℕ) (octets : List ℕ) → whole at octets ≡ step → List·Memᴰ (getD octets 0 0) kinds → ⊥)
-      → optionIn kinds (step ∷ later) ≡ optionIn kinds later → Sought later → Sought (step ∷ later)
+  passes-over : (step : Step) (later : List Step) → Other step → optionIn kinds (step ∷ later) ≡ optionIn kinds later → Sought later → Sought (step ∷ later)
   unfolding Sought
   passes-over step later other same (inl none) = inl (none-more step later other (none .0), same ∙ none .1)
   passes-over step later other same (inr (at, octets, f)) = inr (
@@ -90,13 +100,12 @@ module _ (kinds : List ℕ) where
     },
   )
 
-  -- either none is listed, and none is found, or one is the first
   sought : (steps : List Step) → Sought steps
   unfolding Sought optionIn
   sought [] = inl ((λ at octets m. absurd (List·Memᴰ·not-nil m)), refl)
-  sought (nop a ∷ later) = passes-over (nop a) later (λ at octets same m. true≢false (ap isOption same)) refl (sought later)
-  sought (end a ∷ later) = passes-over (end a) later (λ at octets same m. true≢false (ap isOption same)) refl (sought later)
-  sought (broken a ∷ later) = passes-over (broken a) later (λ at octets same m. true≢false (ap isOption same)) refl (sought later)
+  sought (nop a ∷ later) = passes-over (nop a) later (no-option (nop a) refl) refl (sought later)
+  sought (end a ∷ later) = passes-over (end a) later (no-option (end a) refl) refl (sought later)
+  sought (broken a ∷ later) = passes-over (broken a) later (no-option (broken a) refl) refl (sought later)
   sought (whole a x ∷ later) = go (standsIn (getD x 0 0) kinds) refl (sought later)
     where
       go : (t : Bool) → standsIn (getD x 0 0) kinds ≡ t → Sought later → Sought (whole a x ∷ later)
@@ -111,7 +120,7 @@ module _ (kinds : List ℕ) where
           listed = stands-only (getD x 0 0) kinds e;
         },
       )
-      go false e rest = passes-over (whole a x) later (λ at octets same m. true≢false (sym (ap (λ (k : ℕ). standsIn k kinds) (sym (ap kindOf same)) ∙ stands-if (getD octets 0 0) kinds m) ∙ e)) (simp e) rest
+      go false e rest = passes-over (whole a x) later (unlisted a x e) (simp e) rest
 
   -- the one that is found is the first
   pub only-first : (steps : List Step) (at : ℕ) (octets : List ℕ) → optionIn kinds steps ≡ found at octets → First kinds steps at octets
@@ -189,3 +198,14 @@ module _ (s kinds : List ℕ) where
 
   pub none-listed : foundOption s kinds ≡ nothing → reading s .number ≡ 0 → NoneListed kinds (stepsOf s)
   none-listed e read = nothing-only kinds (stepsOf s) (sym (found-read read) ∙ e)
+
+-- And so `find_option` returns that very part of the segment, kind and length octets included, or an empty part.
+module _ (s kinds : List ℕ) (r : RefT (List ℕ)) (from : ℕ × ℕ) (p : IsPart r from (foundOption s kinds)) where
+  pub first-part : (at : ℕ) (octets : List ℕ) → reading s .number ≡ 0 → First kinds (stepsOf s) at octets
+      → (now r ≡ octets) × (ptr r .0 ≡ from .0) × (ptr r .1 ≡ from .1 + at)
+  first-part at octets e f =
+      let is = first-found s kinds at octets e f in
+      (p .0 ∙ ap (λ (g : Found). partOf g .1) is, p .1, p .2 ∙ ap (λ (g : Found). from .1 + partOf g .0) is)
+
+  pub empty-part : (reading s .number ≡ 0 → NoneListed kinds (stepsOf s)) → now r ≡ []
+  empty-part none = p .0 ∙ ap (λ (g : Found). partOf g .1) (nothing-found s kinds none)

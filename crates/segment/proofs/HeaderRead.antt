@@ -3,15 +3,14 @@
 -- Assumes nothing.
 use mathlib.Core.Bool.{cond}
 use mathlib.Core.List.{List, [], _∷_, _++_}
-use mathlib.Core.Path.{_≡_, refl, ap, _∙_}
+use mathlib.Core.Path.{_≡_, ap, _∙_}
 use Prim.Native.Nat.{ℕ, _+_, _-_, _*_, _<_}
 use native.Mathlib.Omega.{arith}
-use lib.ListN.{drop, length, length-append, take}
+use lib.ListN.{drop, length, take}
 use lib.Seq.{take-at}
 use Rattle.octets.specs.Octets.{bigEndian, numberAt}
 use Rattle.octets.proofs.ReadBack.{numberAt-bigEndian}
 use Rattle.segment.specs.Grammar.{paddingRule}
-use Rattle.segment.specs.Options.{optionsOf}
 use Rattle.segment.specs.Reading.{dataOffset, readAs, reading, segmentOf, stepsOf}
 use Rattle.segment.specs.declared.Flags.{Flags}
 use Rattle.segment.specs.declared.Segment.{Segment}
@@ -65,7 +64,8 @@ module _ (h : HeaderNumbers) (half : h .low < 16) where
       let same = fields-are (headerOctets h rest) w e in
       let end : 4 * dataOffset (headerOctets h rest) ≡ 4 * h .offset = ap (λ (k : ℕ). 4 * k) (offset-is rest) in
       let flags : w .flags ≡ h .flags = ap (λ (x : Segment). x .flags) same ∙ flags-read (h .flags) in
-      let payload : w .payload .length ≡ 20 + length rest - 4 * h .offset = ap (λ (x : Segment). x .payload .length) same ∙ omega (arith, offset-is rest) in
+      let payload : w .payload .length ≡ 20 + length rest - 4 * h .offset =
+      ap (λ (x : Segment). x .payload .length) same ∙ omega (arith, offset-is rest) in
       record {
         source = ap (λ (x : Segment). x .source) same ∙ numberAt-bigEndian 1 (h .source) [];
         destination = ap (λ (x : Segment). x .destination) same ∙ numberAt-bigEndian 1 (h .destination) [];
@@ -80,6 +80,11 @@ module _ (h : HeaderNumbers) (half : h .low < 16) where
       }
 
   -- the options of a segment are the octets from 20 to 4 x offset, each at its place
-  pub options-run : (options payload : List ℕ) → 20 + length options ≡ 4 * h .offset → stepsOf (headerOctets h (options ++ payload)) ≡ paddingRule 20 options
+  pub options-run : (options payload : List ℕ) → 20 + length options ≡ 4 * h .offset
+      → stepsOf (headerOctets h (options ++ payload)) ≡ paddingRule 20 options
   unfolding bigEndian
-  options-run options payload e = ap (λ (l : List ℕ). paddingRule 20 (drop 20 l)) (take-at (headerOctets h options) payload (4 * dataOffset (headerOctets h (options ++ payload))) (omega (arith, offset-is (options ++ payload))))
+  options-run options payload e =
+      let s : List ℕ = headerOctets h (options ++ payload) in
+      let header : take (4 * dataOffset s) s ≡ headerOctets h options =
+      take-at (headerOctets h options) payload (4 * dataOffset s) (omega (arith, offset-is (options ++ payload))) in
+      ap (λ (l : List ℕ). paddingRule 20 (drop 20 l)) header

@@ -1,6 +1,6 @@
 -- Which number a segment is given, exactly when document 01 says: "E1, E2, E3 in this order; then options left to right, at each one E4, E5,
 -- E6". Assumes nothing.
-use mathlib.Core.Bool.{Bool, true, false, cond, _||_}
+use mathlib.Core.Bool.{Bool, true, false}
 use mathlib.Core.List.{List, [], _∷_, _++_, append-assoc, append-nil}
 use mathlib.Core.Logic.{_⊎_, inl, inr}
 use mathlib.Core.Path.{_≡_, refl, sym, ap, subst, _∙_}
@@ -8,8 +8,7 @@ use Prim.Native.Nat.{ℕ, _*_, _/_, _≤_, _<_}
 use native.Mathlib.Omega.{arith}
 use lib.Dec.{eqb, ltb}
 use lib.ListN.{getD, length, length-append}
-use borrow.Author.Tests.{eqb-false, eqb-true, le-ltb, lt-ltb, ltb-false, ltb-true, ne-eqb}
-use Rattle.laws.proofs.Choices.{neither}
+use borrow.Author.Tests.{eqb-false, eqb-true, ltb-false, ltb-true, ne-eqb}
 use Rattle.segment.specs.Grammar.{Step}
 use Rattle.segment.specs.Options.{faultAt, faultIn}
 use Rattle.segment.specs.Reading.{Answer, dataOffset, optionsRead, reading, refused, stepsOf}

@@ -2,7 +2,7 @@
 -- 10, 18, 26 or 34; 8 timestamps length 10 (TSval, TSecr)", all big-endian; and what is said where there is none. Assumes nothing.
 use mathlib.Core.Bool.{true, false}
 use mathlib.Core.List.{List, [], _∷_, _++_, List·Memᴰ, List·Memᴰ·head, List·Memᴰ·tail, List·Memᴰ·eq-of-singleton}
-use mathlib.Core.Path.{_≡_, refl, sym, ap, subst, _∙_}
+use mathlib.Core.Path.{_≡_, refl, sym, ap, _∙_}
 use Prim.Native.Nat.{ℕ, _+_, _*_, _≤_}
 use native.Mathlib.Omega.{arith}
 use lib.ListN.{getD, length}
@@ -20,7 +20,7 @@ use Rattle.segment.specs.declared.Segment.{Segment}
 use Rattle.segment.specs.declared.Timestamps.{Timestamps}
 use Rattle.segment.specs.declared.WindowScale.{WindowScale}
 use Rattle.segment.proofs.Faults.{Among, RightLength, judged-only, mss, window-scale, sack-permitted, one-block, two-blocks, three-blocks, four-blocks, timestamps, second-time}
-use Rattle.segment.proofs.FoundOption.{NoneListed, first-option, nothing-if}
+use Rattle.segment.proofs.FoundOption.{first-option, nothing-if}
 use Rattle.segment.proofs.Numbers.{faultless}
 use Rattle.segment.proofs.Readable.{fields-are}
 
