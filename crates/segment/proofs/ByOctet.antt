@@ -24,7 +24,7 @@ drop-further (suc m) n (x ∷ xs) = drop-further m n xs ∙ ap (λ (k : ℕ). dr
 
 -- the option octets are those of the header, `&s[0..end]`, from 20 on
 pub options-there : (s : List ℕ) (m : ℕ) → m ≡ 4 * dataOffset s → drop 20 (take (m - 0) s) ≡ optionOctets s
-options-there s m e = rw (sub-zero m, e)
+options-there s m e = ap (λ (k : ℕ). drop 20 (take k s)) (sub-zero m ∙ e)
 
 -- The padding rule at a place.
 pub padding-past : (header : List ℕ) (at : ℕ) → length header ≤ at → paddingRule at (drop at header) ≡ []

@@ -14,11 +14,12 @@ use borrow.Author.Tests.{eqb-true, ne-eqb}
 use Rattle.segment.specs.Grammar.{Step, isBroken, length-least, length-most, whole}
 use Rattle.segment.specs.Options.{Found, found, isFound, nothing, optionIn, standsIn}
 use Rattle.segment.specs.Internal.{placeOf}
-use Rattle.segment.specs.Part.{Inside, IsPart}
-use Rattle.segment.specs.Reading.{dataOffset, foundOption, optionOctets, reading, stepsOf}
+use Rattle.segment.specs.Part.{Inside, IsPart, partOf}
+use Rattle.segment.specs.Reading.{dataOffset, foundOption, matching, optionOctets, reading, stepsOf}
 use Rattle.segment.proofs.Readable.{passed}
 use Rattle.segment.proofs.ByOctet.{options-there}
 use Rattle.segment.proofs.Induction.{Steps, along-rules}
+use Rattle.segment.proofs.Membership.{stands-all}
 
 -- `octets` are those of `left` from the j-th on, and their kind and length are as they should be
 record Within (kinds left : List ℕ) (j : ℕ) (octets : List ℕ) : Type 0 where
@@ -115,24 +116,32 @@ module _ (kinds : List ℕ) where
         length-counted = w .2 .counted;
       }
 
-  pub found-inside : (s : List ℕ) (place : ℕ) (octets : List ℕ) → foundOption s kinds ≡ found place octets → Inside s kinds place octets
-  unfolding foundOption
-  found-inside s place octets e = go (eqb (reading s .number) 0) refl e
-    where
-      go : (t : Bool) → eqb (reading s .number) 0 ≡ t → cond t (optionIn kinds (stepsOf s)) nothing ≡ found place octets → Inside s kinds place octets
-      go true z e = in-segment s place octets (passed s (eqb-true _ _ z) .offset-least) e
-      go false z e = none-found place octets e
+pub found-inside : (kinds s : List ℕ) (place : ℕ) (octets : List ℕ) → foundOption s kinds ≡ found place octets → Inside s kinds place octets
+unfolding foundOption
+found-inside kinds s place octets e = go (eqb (reading s .number) 0) refl e
+  where
+    go : (t : Bool) → eqb (reading s .number) 0 ≡ t → cond t (optionIn (matching kinds) (stepsOf s)) nothing ≡ found place octets → Inside s kinds place octets
+    go true z e =
+        let i = in-segment (matching kinds) s place octets (passed s (eqb-true _ _ z) .offset-least) e in
+        record {
+          after-header = i .after-header;
+          before-payload = i .before-payload;
+          octets-there = i .octets-there;
+          kind-listed = stands-all _ (getD octets 0 0) kinds (i .kind-listed);
+          length-counted = i .length-counted;
+        }
+    go false z e = none-found place octets e
 
--- What `find_option` hands back is empty or such an option of the segment, at its place; and empty where the segment is refused.
+-- What `find_option` returns is empty or such an option of the segment, at its place; and empty where the segment is refused.
 module _ (s kinds : List ℕ) (r : RefT (List ℕ)) (from : ℕ × ℕ) (p : IsPart r from (foundOption s kinds)) where
   pub part-inside : (now r ≡ []) ⊎ ((place : ℕ) × Inside s kinds place (now r) × (ptr r .0 ≡ from .0) × (ptr r .1 ≡ from .1 + place))
   part-inside = go (foundOption s kinds) refl
     where
       go : (f : Found) → foundOption s kinds ≡ f → (now r ≡ []) ⊎ ((place : ℕ) × Inside s kinds place (now r) × (ptr r .0 ≡ from .0) × (ptr r .1 ≡ from .1 + place))
-      go nothing e = inl (p .0 ∙ rw e)
+      go nothing e = inl (p .0 ∙ ap (λ (f : Found). partOf f .1) e)
       go (found place octets) e =
-          let same : now r ≡ octets = p .0 ∙ rw e in
-          let there : ptr r .1 ≡ from .1 + place = p .2 ∙ rw e in
+          let same : now r ≡ octets = p .0 ∙ ap (λ (f : Found). partOf f .1) e in
+          let there : ptr r .1 ≡ from .1 + place = p .2 ∙ ap (λ (f : Found). from .1 + partOf f .0) e in
           inr (place, subst (Inside s kinds place) (sym same) (found-inside kinds s place octets e), p .1, there)
 
   pub part-empty : (reading s .number ≡ 0 → ⊥) → now r ≡ []

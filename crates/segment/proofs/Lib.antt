@@ -1,12 +1,18 @@
 mod Blocks
 mod ByOctet
+pub mod Faults
 pub mod FlagsRead
+pub mod FoundOption
 mod Gathering
+pub mod HeaderRead
 pub mod Induction
 pub mod Inside
 mod Judging
 mod Listed
 pub mod LowKinds
+mod Membership
+pub mod Numbers
+pub mod OptionValues
 pub mod OptionsRead
 mod Outcomes
 pub mod Readable

@@ -11,6 +11,7 @@ use Rattle.segment.specs.Grammar.{isBroken, optionRule, paddingRule}
 use Rattle.segment.specs.Options.{Found, found, nothing, optionIn, standsIn}
 use Rattle.segment.specs.Internal.{Reaches, isListed}
 use Rattle.segment.specs.Part.{IsPart}
+use Rattle.segment.specs.Reading.{matching}
 use Rattle.segment.proofs.ByOctet.{kind-kept, option-broken, option-whole, padding-end, padding-nop, padding-past}
 
 module _ (kinds header : List ℕ) (at : ℕ) where
@@ -43,14 +44,14 @@ module _ (kinds header : List ℕ) (at : ℕ) where
 
 -- by how far a step reaches
 module _ (kinds header : List ℕ) (at n : ℕ) (r : Reaches header at n) where
-  pub nothing-more : n ≡ 0 → optionIn kinds (paddingRule at (drop at header)) ≡ nothing
+  pub nothing-more : n ≡ 0 → optionIn (matching kinds) (paddingRule at (drop at header)) ≡ nothing
   nothing-more z = r .finds kinds ∙ simp (eq-eqb n 0 z)
 
-  pub found-here : (n ≡ 0 → ⊥) → isListed kinds (getD header at 0) ≡ true → optionIn kinds (paddingRule at (drop at header)) ≡ found at (take n (drop at header))
+  pub found-here : (n ≡ 0 → ⊥) → isListed kinds (getD header at 0) ≡ true → optionIn (matching kinds) (paddingRule at (drop at header)) ≡ found at (take n (drop at header))
   found-here some l = r .finds kinds ∙ simp (ne-eqb n 0 some, l)
 
   pub found-later : (n ≡ 0 → ⊥) → isListed kinds (getD header at 0) ≡ false
-      → optionIn kinds (paddingRule at (drop at header)) ≡ optionIn kinds (paddingRule (at + n) (drop (at + n) header))
+      → optionIn (matching kinds) (paddingRule at (drop at header)) ≡ optionIn (matching kinds) (paddingRule (at + n) (drop (at + n) header))
   found-later some l = r .finds kinds ∙ simp (ne-eqb n 0 some, l)
 
 -- a part of what starts where the slice does is a part of the slice

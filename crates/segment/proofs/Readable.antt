@@ -3,14 +3,14 @@ use mathlib.Core.Bool.{Bool, true, false, cond, _||_}
 use mathlib.Core.List.{List, []}
 use mathlib.Core.Option.{Option·some-injective}
 use mathlib.Core.Path.{_≡_, refl, sym, ap, subst, _∙_}
-use Prim.Native.Nat.{ℕ, _*_, _≤_}
+use Prim.Native.Nat.{ℕ, _*_, _≤_, _<_}
 use native.Mathlib.Omega.{arith}
 use lib.Dec.{eqb, ltb}
 use lib.ListN.{getD, length}
-use borrow.Author.Tests.{eqb-true, le-ltb, ltb-false, ne-eqb}
+use borrow.Author.Tests.{eqb-true, le-ltb, lt-ltb, ltb-false, ne-eqb}
 use Rattle.laws.proofs.Choices.{neither}
 use Rattle.segment.specs.Options.{blockList, faultIn, nothing, optionIn, optionsOf}
-use Rattle.segment.specs.Reading.{Answer, dataOffset, flagsOf, foundOption, numberOf, optionsRead, readAs, reading, refused, segmentOf, stepsOf, withFields}
+use Rattle.segment.specs.Reading.{Answer, dataOffset, flagsOf, foundOption, matching, numberOf, optionsRead, readAs, reading, refused, segmentOf, stepsOf, withFields}
 use Rattle.segment.specs.Readable.{Readable}
 use Rattle.segment.specs.declared.Flags.{Flags}
 use Rattle.segment.specs.declared.Options.{Options}
@@ -34,11 +34,31 @@ pub record Passed (s : List ℕ) : Type 0 where
   pub offset-least : 5 ≤ dataOffset s
   pub offset-most : 4 * dataOffset s ≤ length s
 
+-- Of two answers, by a test of two numbers.
+module _ {A : Type 0} where
+  pub below : (a b : ℕ) (x y : A) → a < b → cond (ltb a b) x y ≡ x
+  below a b x y h = simp (lt-ltb a b h)
+
+  pub not-below : (a b : ℕ) (x y : A) → b ≤ a → cond (ltb a b) x y ≡ y
+  not-below a b x y h = simp (le-ltb a b h)
+
+  pub first-below : (a b c d : ℕ) (x y : A) → a < b → cond (ltb a b || ltb c d) x y ≡ x
+  first-below a b c d x y h = simp (lt-ltb a b h)
+
+  pub second-below : (a b c d : ℕ) (x y : A) → b ≤ a → c < d → cond (ltb a b || ltb c d) x y ≡ x
+  second-below a b c d x y g h = simp (le-ltb a b g, lt-ltb c d h)
+
+  pub neither-below : (a b c d : ℕ) (x y : A) → b ≤ a → d ≤ c → cond (ltb a b || ltb c d) x y ≡ y
+  neither-below a b c d x y g h = simp (le-ltb a b g, le-ltb c d h)
+
 -- it is answered by its options
 module _ (s : List ℕ) (p : Passed s) where
-  by-options : reading s ≡ withFields (segmentOf s (4 * dataOffset s)) (optionsRead (stepsOf s))
+  pub by-options : reading s ≡ withFields (segmentOf s (4 * dataOffset s)) (optionsRead (stepsOf s))
   unfolding reading
-  by-options = simp (le-ltb _ _ (p .long), le-ltb _ _ (p .short), le-ltb _ _ (p .offset-least), le-ltb _ _ (p .offset-most))
+  by-options =
+      not-below (length s) _ _ _ (omega (arith, p .long))
+      ∙ not-below _ (length s) _ _ (omega (arith, p .short))
+      ∙ neither-below (dataOffset s) _ (length s) _ _ _ (omega (arith, p .offset-least)) (omega (arith, p .offset-most))
 
   pub read-if : faultIn [] (stepsOf s) ≡ 0 → reading s ≡ readAs (segmentOf s (4 * dataOffset s) (optionsOf (stepsOf s)))
   unfolding optionsRead
@@ -132,10 +152,12 @@ module _ (s : List ℕ) (w : Segment) (e : reading s ≡ readAs w) where
 
 -- An option is found in what is read, and none in what is refused.
 module _ (s kinds : List ℕ) where
-  pub found-none : (why : Refusal) → reading s ≡ refused (numberOf why) → foundOption s kinds ≡ nothing
+  by-number : (a : Answer Segment) → reading s ≡ a → foundOption s kinds ≡ cond (eqb (a .number) 0) (optionIn (matching kinds) (stepsOf s)) nothing
   unfolding foundOption
-  found-none why e = rw e (simp (ne-eqb _ _ (number-some why)))
+  by-number a e = ap (λ (x : Answer Segment). cond (eqb (x .number) 0) (optionIn (matching kinds) (stepsOf s)) nothing) e
 
-  pub found-some : (w : Segment) → reading s ≡ readAs w → foundOption s kinds ≡ optionIn kinds (stepsOf s)
-  unfolding foundOption
-  found-some w e = rw e
+  pub found-none : (why : Refusal) → reading s ≡ refused (numberOf why) → foundOption s kinds ≡ nothing
+  found-none why e = by-number (refused (numberOf why)) e ∙ simp (ne-eqb _ _ (number-some why))
+
+  pub found-some : (w : Segment) → reading s ≡ readAs w → foundOption s kinds ≡ optionIn (matching kinds) (stepsOf s)
+  found-some w e = by-number (readAs w) e

@@ -1,14 +1,17 @@
--- A refusal is one of the numbers 1 to 6 and has no fields. Assumes nothing.
+-- A refusal is one of the numbers 1 to 6 and has no fields, so what has fields is read. Assumes nothing.
 use mathlib.Core.Bool.{Bool, true, false, cond, _||_}
 use mathlib.Core.List.{List, [], _∷_, _++_}
-use mathlib.Core.Path.{_≡_, refl, ap}
+use mathlib.Core.Option.{some, Option·some-ne-none}
+use mathlib.Core.Path.{_≡_, refl, sym, ap, _∙_}
 use Prim.Native.Nat.{ℕ, _*_, _≤_}
 use native.Mathlib.Omega.{arith}
 use lib.Dec.{eqb, ltb}
 use lib.ListN.{getD, length}
+use borrow.Author.Tests.{eqb-false, eqb-true}
 use Rattle.segment.specs.Grammar.{Step, broken, end, nop, whole}
 use Rattle.segment.specs.Options.{faultAt, faultIn, isRepeated, isWrongLength}
 use Rattle.segment.specs.Reading.{Answer, dataOffset, optionsRead, readAs, reading, refused, segmentOf, stepsOf, withFields}
+use Rattle.segment.specs.declared.Segment.{Segment}
 
 chosen-most : (n : ℕ) (t : Bool) (a b : ℕ) → a ≤ n → b ≤ n → cond t a b ≤ n
 chosen-most n true a b p q = p
@@ -58,3 +61,13 @@ reading-alone s =
     let offset = chosen-alone (ltb (dataOffset s) 5 || ltb (length s) (4 * dataOffset s)) _ _ (refused-alone 3 (omega arith)) options in
     let long = chosen-alone (ltb 65535 (length s)) _ _ (refused-alone 2 (omega arith)) offset in
     chosen-alone (ltb (length s) 20) _ _ (refused-alone 1 (omega arith)) long
+
+-- what has fields is read: a reading from its fields alone
+pub read-whole : (s : List ℕ) (w : Segment) → reading s .fields ≡ some w → reading s ≡ readAs w
+read-whole s w e = go (eqb (reading s .number) 0) refl
+  where
+    go : (t : Bool) → eqb (reading s .number) 0 ≡ t → reading s ≡ readAs w
+    go true z = λ i. record { number = eqb-true (reading s .number) 0 z i; fields = e i }
+    go false z =
+        let refuses = reading-alone s .alone (eqb-false (reading s .number) 0 z) in
+        absurd (Option·some-ne-none w (sym e ∙ ap (λ (a : Answer Segment). a .fields) refuses))

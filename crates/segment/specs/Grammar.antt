@@ -1,4 +1,4 @@
--- The two rules that read the options (document 01, "Reading a segment"): each hands what is left to the other. They split the octets into
+-- The two rules that read the options (document 01, "Reading a segment"): each passes what is left to the other. They split the octets into
 -- steps and judge no option.
 use Prim.Native.Nat.{ℕ, zero, suc, _+_, _*_, _≤_}
 use native.Mathlib.Numerals.{add-one}

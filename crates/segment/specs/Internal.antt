@@ -1,14 +1,14 @@
 -- What the contracts of private functions cite: where the known options stand, as the reader notes it while the rules run, and how far a
 -- step reaches. No promise of the crate rests on these.
 use Prim.Native.Nat.{ℕ, _+_, _≤_}
-use mathlib.Core.Bool.{Bool, cond, not, _&&_}
+use mathlib.Core.Bool.{Bool, cond}
 use mathlib.Core.List.{List, [], _∷_, _++_}
 use mathlib.Core.Path.{_≡_}
 use lib.Dec.{eqb}
 use lib.ListN.{drop, getD, length, take}
 use Rattle.segment.specs.Grammar.{Step, paddingRule}
 use Rattle.segment.specs.Options.{Found, faultIn, found, nothing, optionIn, optionOf, standsIn}
-use Rattle.segment.specs.Reading.{numberOf}
+use Rattle.segment.specs.Reading.{matching, numberOf}
 use Rattle.segment.specs.Part.{Inside}
 use Rattle.segment.specs.declared.places.Places.{Places}
 use Rattle.segment.specs.declared.rules.Listing.{Listing}
@@ -53,14 +53,14 @@ pub record StandAll (s : List ℕ) (steps : List Step) : Type 0 where
   pub sack : StandsIf s 5 10 (optionOf 5 steps)
   pub timestamps : StandsIf s 8 10 (optionOf 8 steps)
 
--- a step that does not end the list is an option that a list of kinds asks for, by its kind
+-- whether a list of kinds asks for an option of this kind
 abbrev pub isListed : List ℕ → ℕ → Bool
-isListed kinds kind = not (eqb kind 1) && standsIn kind kinds
+isListed kinds kind = standsIn kind (matching kinds)
 
 -- a step of n octets at a place: 1 for a NOP, an option's length, and 0 where the list ends or the option is broken
 pub record Reaches (header : List ℕ) (at n : ℕ) : Type 0 where
   pub within : at + n ≤ length header
-  pub finds : (kinds : List ℕ) → optionIn kinds (paddingRule at (drop at header))
+  pub finds : (kinds : List ℕ) → optionIn (matching kinds) (paddingRule at (drop at header))
       ≡ cond (eqb n 0) nothing
       (cond (isListed kinds (getD header at 0)) (found at (take n (drop at header)))
-      (optionIn kinds (paddingRule (at + n) (drop (at + n) header))))
+      (optionIn (matching kinds) (paddingRule (at + n) (drop (at + n) header))))

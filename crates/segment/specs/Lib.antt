@@ -5,6 +5,3 @@ pub mod Readable
 pub mod Part
 pub mod Internal
 pub mod Cases
-pub mod Vectors
-pub mod FieldVectors
-pub mod FoundVectors

@@ -1,4 +1,4 @@
--- An option that is handed back as that very part of the segment.
+-- An option that is returned as that very part of the segment.
 use Prim.Native.Nat.{ℕ, _+_, _*_, _≤_, _<_}
 use mathlib.Core.Bool.{true}
 use mathlib.Core.List.{List, []}
@@ -8,7 +8,7 @@ use denote.Ref.{RefT, now, ptr}
 use Rattle.segment.specs.Options.{Found, found, nothing, standsIn}
 use Rattle.segment.specs.Reading.{dataOffset}
 
--- the place and the octets of the part that is handed back; where no option is found, document 01 leaves the place free, and it is the start
+-- the place and the octets of the part that is returned; where no option is found, document 01 leaves the place free, and it is the start
 abbrev pub partOf : Found → ℕ × List ℕ
 partOf nothing = (0, [])
 partOf (found place octets) = (place, octets)

@@ -3,8 +3,9 @@ use Prim.Native.Nat.{ℕ, _+_, _-_, _*_, _/_, _%_, _^_}
 use mathlib.Core.Bool.{Bool, cond, _||_}
 use mathlib.Core.List.{List, []}
 use mathlib.Core.Option.{Option, none, some, Option·map}
-use lib.Dec.{eqb, ltb}
+use lib.Dec.{eqb, leb, ltb}
 use lib.ListN.{drop, getD, length, take}
+use Rattle.laws.specs.Lists.{filter}
 use Rattle.octets.specs.Octets.{numberAt}
 use Rattle.segment.specs.Grammar.{Step, paddingRule}
 use Rattle.segment.specs.Options.{Found, faultIn, nothing, optionIn, optionsOf}
@@ -106,6 +107,10 @@ reading s =
     (cond (ltb (dataOffset s) 5 || ltb (length s) (4 * dataOffset s)) (refused 3)
     byOptions))
 
+-- the kinds of a list that can match: kinds 0 and 1 match nothing
+abbrev pub matching : List ℕ → List ℕ
+matching kinds = filter (leb 2) kinds
+
 -- the first option whose kind stands in the list, in a segment that is not refused
 unfoldable pub foundOption : List ℕ → List ℕ → Found
-foundOption s kinds = cond (eqb (reading s .number) 0) (optionIn kinds (stepsOf s)) nothing
+foundOption s kinds = cond (eqb (reading s .number) 0) (optionIn (matching kinds) (stepsOf s)) nothing

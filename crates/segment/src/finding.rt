@@ -7,6 +7,7 @@ ghost use Rattle.segment.specs.Grammar.{paddingRule};
 ghost use Rattle.segment.specs.Options.{optionIn, standsIn};
 ghost use Rattle.segment.specs.Internal.{Reaches, isListed};
 ghost use Rattle.segment.specs.Part.{IsPart};
+ghost use Rattle.segment.specs.Reading.{matching};
 use super::FIXED_HEADER;
 use super::kinds::END;
 use super::kinds::NOP;
@@ -14,7 +15,7 @@ use super::rules::is_broken;
 
 // The first option of a header whose kind stands in `kinds`, or an empty part.
 pub fn first_listed<'a>(header: &'a [u8], kinds: &[u8]) -> &'a [u8]
-    ensures { λ r. ⌜ IsPart r (ptr (header .entry)) (optionIn (now (kinds .entry)) (paddingRule 20 (drop 20 (now (header .entry))))) ⌝ }
+    ensures { λ r. ⌜ IsPart r (ptr (header .entry)) (optionIn (matching (now (kinds .entry))) (paddingRule 20 (drop 20 (now (header .entry))))) ⌝ }
 {
     let mut at = FIXED_HEADER;
     while at < header.len() {
@@ -48,11 +49,11 @@ fn step_octets(header: &[u8], at: usize) -> usize
     header[at + 1] as usize
 }
 
-// Whether a step of this kind, one that does not end the list, is an option that `kinds` asks for.
+// Whether `kinds` asks for an option of this kind: 0 and 1 in it match nothing.
 fn is_listed(kinds: &[u8], kind: u8) -> bool
     ensures { λ r. ⌜ r ≡ isListed (now (kinds .entry)) kind ⌝ }
 {
-    if kind == NOP {
+    if kind < 2 {
         return false;
     }
     stands_in(kinds, kind)

@@ -1,4 +1,4 @@
-// The two rules that read the options: each hands what is left to the other.
+// The two rules that read the options: each passes what is left to the other.
 ghost use mathlib.Core.Path.{_≡_};
 ghost use mathlib.Core.List.{List};
 ghost use Prim.Native.Nat.{_≤_, _<_};
@@ -43,7 +43,7 @@ pub fn padding_rule(header: &[u8], from: usize, prior: Places) -> Listing
     Listing::Listed(prior)
 }
 
-// Reads one kind, length and body, and hands what is left to the padding rule: E4, E5, E6 in this order.
+// Reads one kind, length and body, and passes what is left to the padding rule: E4, E5, E6 in this order.
 fn option_rule(header: &[u8], at: usize, prior: Places) -> Listing
     requires { ⌜ (0 < at) × (at < length (now header)) × (length (now header) ≤ 60) ⌝ }
     ensures { λ r. ⌜ ((before : List Step) → Noted before prior → Outcome before (optionRule at (drop at (now (header .entry)))) r) ⌝ }

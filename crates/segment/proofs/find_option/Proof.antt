@@ -4,7 +4,7 @@ use native.Mathlib.Omega.{arith}
 use denote.Ref.{now, ptr}
 use borrow.Author.Needs.{needs}
 use Rattle.segment.specs.Options.{optionIn}
-use Rattle.segment.specs.Reading.{shown, stepsOf}
+use Rattle.segment.specs.Reading.{matching, shown, stepsOf}
 use Rattle.segment.proofs.ByOctet.{options-there}
 use Rattle.segment.proofs.Listed.{part-of-start}
 use Rattle.segment.proofs.Readable.{found-none, found-some, readable, start-is}
@@ -47,8 +47,8 @@ first-listed-requires c κs = search needs
 returns : tie.Need-returns
 returns c =
     let a = c .before .before .before .before .before .before .args in
-    let told = c .before .enum-told .given in
-    rw (found-none (now (a .segment)) (now (a .kinds)) (told .0 .0) (sym (c .before .before .before .read .ensures) ∙ ap shown (told .1)))
+    let refusal = c .before .enum-told .given in
+    rw (found-none (now (a .segment)) (now (a .kinds)) (refusal .0 .0) (sym (c .before .before .before .read .ensures) ∙ ap shown (refusal .1)))
     (refl, refl, omega arith)
 
 returns-2 : tie.Need-returns-2
@@ -60,7 +60,7 @@ returns-2 c =
     let whole = r .reading .given .0 .0 in
     let read = sym (r .before .before .read .ensures) ∙ ap shown (r .reading .given .1) in
     rw (found-some s kinds whole read)
-    (part-of-start (c .first-listed .result) (ptr (a .segment)) (optionIn kinds (stepsOf s))
+    (part-of-start (c .first-listed .result) (ptr (a .segment)) (optionIn (matching kinds) (stepsOf s))
     (rw (options-there s (whole .payload .start) (start-is s whole read)) at (c .first-listed .ensures)))
 
 pub find-option-spec : {M : Type 1} → statement M

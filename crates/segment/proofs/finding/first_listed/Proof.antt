@@ -8,13 +8,14 @@ use denote.Ref.{now}
 use borrow.Author.Needs.{needs}
 use Rattle.segment.specs.Grammar.{paddingRule}
 use Rattle.segment.specs.Options.{optionIn}
+use Rattle.segment.specs.Reading.{matching}
 use Rattle.segment.proofs.Listed.{found-here, found-later, nothing-more, past-found}
 use Rattle.segment.proofs.finding.first_listed.Statement.{statement}
 use Rattle.segment.proofs.finding.first_listed.Tie as tie
 
 abbrev Inv-loop : tie.InvT-loop
 Inv-loop header kinds at₀ at =
-    optionIn kinds (paddingRule 20 (drop 20 header)) ≡ optionIn kinds (paddingRule at (drop at header))
+    optionIn (matching kinds) (paddingRule 20 (drop 20 header)) ≡ optionIn (matching kinds) (paddingRule at (drop at header))
 
 abbrev μ-loop : tie.MeasureT-loop
 μ-loop header kinds at₀ at = length header - at
@@ -97,7 +98,7 @@ returns-3 : tie.Need-returns-3 Inv-loop μ-loop
 returns-3 c =
     let a = c .before .before .before .before .before .args in
     let l = c .before .before .loop in
-    rw (l .inv ∙ past-found (now (a .kinds)) (now (a .header)) (l .at) (c .before .loop-test .left)) (refl, refl, omega arith)
+    rw (l .inv ∙ past-found (matching (now (a .kinds))) (now (a .header)) (l .at) (c .before .loop-test .left)) (refl, refl, omega arith)
 
 pub first-listed-spec : {M : Type 1} → statement M
 first-listed-spec =

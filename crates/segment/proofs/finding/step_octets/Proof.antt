@@ -1,6 +1,6 @@
 -- Each test meets one way in which the rules go on. Assumes nothing.
 use mathlib.Core.Bool.{false}
-use mathlib.Core.Path.{_≡_, sym, ap, _∙_}
+use mathlib.Core.Path.{_≡_, refl, sym, ap, _∙_}
 use Prim.Native.Nat.{_+_, _≤_}
 use native.Mathlib.Omega.{arith}
 use lib.ListN.{drop, getD, length}
@@ -8,9 +8,11 @@ use denote.Ref.{now}
 use borrow.Author.Tests.{ne-eqb}
 use borrow.Author.Needs.{needs}
 use Rattle.segment.specs.Grammar.{isBroken, optionRule, paddingRule}
-use Rattle.segment.specs.Options.{optionIn}
+use Rattle.segment.specs.Options.{optionIn, standsIn}
+use Rattle.segment.specs.Reading.{matching}
 use Rattle.segment.proofs.ByOctet.{octets-least, octets-most, padding-option, to-the-end}
 use Rattle.segment.proofs.Listed.{broken-found, end-found, nop-found, whole-found}
+use Rattle.segment.proofs.Membership.{stands-failed}
 use Rattle.segment.proofs.finding.step_octets.Statement.{statement}
 use Rattle.segment.proofs.finding.step_octets.Tie as tie
 
@@ -21,14 +23,14 @@ option-there c =
     let a = c .before .before .before .before .args in
     padding-option (now (a .header)) (a .at) (c .before .before .before .before .pre) (λ e. c .before .if1 .left (omega (arith, e))) (λ e. c .if2 .left (omega (arith, e)))
 
--- what is told of the option is told of the octets from there on
-told : (c : tie.After-is-broken) → let a = c .before .before .before .before .before .before .args in isBroken (drop (a .at) (now (a .header))) ≡ c .is-broken .result
-told c =
+-- what is said of the option is said of the octets from there on
+same-test : (c : tie.After-is-broken) → let a = c .before .before .before .before .before .before .args in isBroken (drop (a .at) (now (a .header))) ≡ c .is-broken .result
+same-test c =
     let a = c .before .before .before .before .before .before .args in
     sym (rw (to-the-end (a .at) (now (a .header))) at (c .is-broken .ensures))
 
 unbroken : (c : tie.Else3) → let a = c .before .before .before .before .before .before .before .args in isBroken (drop (a .at) (now (a .header))) ≡ false
-unbroken c = told (c .before) ∙ c .if3 .left
+unbroken c = same-test (c .before) ∙ c .if3 .left
 
 fits : (c : tie.Else3) → let a = c .before .before .before .before .before .before .before .args in
     let n = getD (now (a .header)) (a .at + 1) 0 in (2 ≤ n) × (a .at + n ≤ length (now (a .header)))
@@ -40,10 +42,15 @@ shared-slice-read-kind : tie.Need-shared-slice-read-kind
 shared-slice-read-kind c = search needs
 
 returns : tie.Need-returns
-returns c = record { within = omega arith; finds = λ kinds. end-found kinds _ _ (c .before .before .before .pre) (omega (arith, c .if1 .taken)) }
+returns c = record { within = omega arith; finds = λ kinds. end-found (matching kinds) _ _ (c .before .before .before .pre) (omega (arith, c .if1 .taken)) }
 
 returns-2 : tie.Need-returns-2
-returns-2 c = record { within = omega arith; finds = λ kinds. simp (c .if2 .taken) (nop-found kinds _ _ (c .before .before .before .before .pre) (omega (arith, c .if2 .taken))) }
+returns-2 c = record {
+  within = omega arith;
+  finds = λ kinds.
+      let unlisted : standsIn 1 (matching kinds) ≡ false = stands-failed _ 1 kinds refl in
+      simp (c .if2 .taken, unlisted) (nop-found (matching kinds) _ _ (c .before .before .before .before .pre) (omega (arith, c .if2 .taken)));
+}
 
 sub-is-broken : tie.Need-sub-is-broken
 sub-is-broken c = search needs
@@ -60,7 +67,7 @@ is-broken-requires c κs = search needs
 returns-3 : tie.Need-returns-3
 returns-3 c = record {
   within = omega arith;
-  finds = λ kinds. ap (optionIn kinds) (option-there (c .before .before .before)) ∙ broken-found kinds _ _ (told (c .before) ∙ c .if3 .taken);
+  finds = λ kinds. ap (optionIn (matching kinds)) (option-there (c .before .before .before)) ∙ broken-found (matching kinds) _ _ (same-test (c .before) ∙ c .if3 .taken);
 }
 
 add-result : tie.Need-add-result
@@ -80,10 +87,8 @@ returns-4 c =
     let there = fits e in
     record {
       within = there .1;
-      finds = λ kinds. simp (
-        ne-eqb (getD header (a .at + 1) 0) 0 (λ z. omega (arith, there .0)),
-        ne-eqb (getD header (a .at) 0) 1 (e .before .before .before .if2 .left),
-      ) (ap (optionIn kinds) (option-there (e .before .before .before)) ∙ whole-found kinds header (a .at) (unbroken e));
+      finds = λ kinds. simp (ne-eqb (getD header (a .at + 1) 0) 0 (λ z. omega (arith, there .0)))
+          (ap (optionIn (matching kinds)) (option-there (e .before .before .before)) ∙ whole-found (matching kinds) header (a .at) (unbroken e));
     }
 
 pub step-octets-spec : {M : Type 1} → statement M

@@ -1,6 +1,7 @@
 -- Each arm is a row of the table of known kinds, or a length of SACK. Assumes nothing.
-use mathlib.Core.Bool.{Bool, false, not, _||_, or-false}
+use mathlib.Core.Bool.{Bool, true, false, not, _||_, or-false}
 use mathlib.Core.Path.{_≡_, sym, ap}
+use Prim.Native.Nat.{ℕ}
 use lib.Dec.{eqb}
 use borrow.Author.Tests.{ne-eqb}
 use Rattle.segment.specs.Options.{isWrongLength, lengthsOf, standsIn}
@@ -9,6 +10,11 @@ use Rattle.segment.proofs.rules.is_wrong_length.Tie as tie
 
 one-length : (fits : Bool) → not fits ≡ not (fits || false)
 one-length fits = ap not (sym (or-false fits))
+
+-- none of the lengths of SACK
+no-length : (n : ℕ) → (n ≡ 10 → ⊥) → (n ≡ 18 → ⊥) → (n ≡ 26 → ⊥) → (n ≡ 34 → ⊥) → true ≡ isWrongLength 5 n
+unfolding isWrongLength standsIn lengthsOf
+no-length n a b c d = simp (ne-eqb n 10 a, ne-eqb n 18 b, ne-eqb n 26 c, ne-eqb n 34 d)
 
 returns : tie.Need-returns
 unfolding isWrongLength standsIn lengthsOf
@@ -39,10 +45,9 @@ unfolding isWrongLength standsIn lengthsOf
 returns-7 c = rw (c .before .match .keys4, c .match2 .keys4)
 
 returns-8 : tie.Need-returns-8
-unfolding isWrongLength standsIn lengthsOf
 returns-8 c =
     let r = c .match2 .rest in
-    simp (c .before .match .keys4, ne-eqb _ _ (r .0 .0 .0 .1), ne-eqb _ _ (r .0 .0 .1), ne-eqb _ _ (r .0 .1), ne-eqb _ _ (r .1))
+    rw (c .before .match .keys4) (no-length _ (r .0 .0 .0 .1) (r .0 .0 .1) (r .0 .1) (r .1))
 
 returns-9 : tie.Need-returns-9
 unfolding isWrongLength standsIn lengthsOf
