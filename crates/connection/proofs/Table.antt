@@ -22,10 +22,10 @@ numbers table = map (λ r. r .number) table
 abbrev Rows : List Row → Type 0
 Rows [] = Unit
 Rows (r ∷ rs) =
-    (eqb (r .number) 0 ≡ false) × (standsIn (r .number) (numbers rs) ≡ false) × (isTake (r .answer) ≡ false) × Rows rs
+    (eqb (r .number) 0 ≡ false) × (standsIn (r .number) (numbers rs) ≡ false) × (isTake (r .action) ≡ false) × Rows rs
 
 abbrev decision : Row → Decision
-decision r = record { number = r .number; answer = r .answer }
+decision r = record { number = r .number; action = r .action }
 
 -- a number that no row has is not given by one
 absent : (n : ℕ) (rs : List Row) → standsIn n (numbers rs) ≡ false → firstHolds n rs ≡ false
@@ -65,13 +65,13 @@ given n table d = pick (eqb n 0) refl
     pick false z = number-given n z table d
 
 -- only where no row holds is a segment taken
-taken-last : (table : List Row) → Rows table → isTake (decided table .answer) ≡ true → decided table ≡ record { number = 0; answer = take }
+taken-last : (table : List Row) → Rows table → isTake (decided table .action) ≡ true → decided table ≡ record { number = 0; action = take }
 taken-last [] d t = refl
 taken-last (r ∷ rs) d t = pick (r .holds) t (taken-last rs (d .3))
   where
-    pick : (h : Bool) → isTake (cond h (decision r) (decided rs) .answer) ≡ true
-        → (isTake (decided rs .answer) ≡ true → decided rs ≡ record { number = 0; answer = take })
-        → cond h (decision r) (decided rs) ≡ record { number = 0; answer = take }
+    pick : (h : Bool) → isTake (cond h (decision r) (decided rs) .action) ≡ true
+        → (isTake (decided rs .action) ≡ true → decided rs ≡ record { number = 0; action = take })
+        → cond h (decision r) (decided rs) ≡ record { number = 0; action = take }
     pick true t later = absurd (false≢true (sym (d .2) ∙ t))
     pick false t later = later t
 
@@ -118,9 +118,9 @@ module _ (k : Connection) (clock : ℕ) (s : Segment) where
   -- the answer carries what the table decided
   pub judged-decision : judged k clock s .decision ≡ decided (rows k clock s)
   unfolding judged settled takenBy
-  judged-decision = pick (isTake (decided (rows k clock s) .answer)) refl
+  judged-decision = pick (isTake (decided (rows k clock s) .action)) refl
     where
-      pick : (t : Bool) → isTake (decided (rows k clock s) .answer) ≡ t
+      pick : (t : Bool) → isTake (decided (rows k clock s) .action) ≡ t
           → cond t (takenBy k clock s) (unchanged k (decided (rows k clock s))) .decision ≡ decided (rows k clock s)
       pick true t = sym (taken-last (rows k clock s) table-rows t)
       pick false t = refl
