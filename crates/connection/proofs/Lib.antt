@@ -1,7 +1,9 @@
 pub mod Incoming
+pub mod Openings
 pub mod Table
 pub mod Rows
 pub mod OnlyTake
+pub mod Taken
 pub mod Changes
 pub mod Keeping
 pub mod Edge

@@ -4,7 +4,7 @@ use Prim.Native.Nat.{ℕ, _+_, _*_, _/_}
 use mathlib.Core.Bool.{true, false}
 use mathlib.Core.List.{List, [], _∷_, _++_, map}
 use mathlib.Core.Option.{Option·elim}
-use mathlib.Core.Path.{_≡_, refl, ap}
+use mathlib.Core.Path.{_≡_, refl}
 use lib.ListN.{length, replicate}
 use Rattle.serial.specs.Serial.{distanceOf, offsetOf, range}
 use Rattle.octets.specs.Octets.{bigEndian, numberAt}
@@ -28,7 +28,7 @@ use Rattle.connection.specs.Verdict.{rows}
 use Rattle.connection.specs.Taking.{fedBy, listed, recordAfter, sampleOf}
 use Rattle.connection.specs.Arriving.{arriving, arrivingRead, judged, settled, takenBy}
 use Rattle.connection.specs.Operations.{sent, windowOpened}
-use Rattle.connection.specs.Calls.{Call, Opened, arrival, called, run, timerCalls, unread}
+use Rattle.connection.specs.Calls.{Call, Opened, arrival, run, timerCalls, unread}
 
 -- octets of a segment: SEQ, ACK, flags, window, options and payload
 abbrev pub octets : ℕ → ℕ → ℕ → ℕ → List ℕ → ℕ → List ℕ
