@@ -135,3 +135,87 @@ syn-counts own clock octets syn is opens =
     let len = readable octets syn (read-whole octets syn is) .len-is in
     let counted : _≡_ {A = ℕ} (cond (syn .flags .syn) 1 0) 1 = ap (λ b. cond b 1 0) (gives .from-syn) in
     omega arith
+
+-- what the peer's SYN offers: what it has
+module _ (syn : Segment) where
+  pub scale-offered : (shift : ℕ) → syn .options .scale ≡ WindowScale.Shift shift → peerOffers syn .scale ≡ Scale.Shift shift
+  scale-offered shift has = rw has
+
+  pub scale-not-offered : syn .options .scale ≡ WindowScale.Absent → peerOffers syn .scale ≡ Scale.Absent
+  scale-not-offered lacks = rw lacks
+
+  pub timestamps-offered : (value echoed : Stamp) → syn .options .timestamps ≡ Timestamps.Pair value echoed → peerOffers syn .timestamps ≡ true
+  timestamps-offered value echoed has = rw has
+
+  pub timestamps-not-offered : syn .options .timestamps ≡ Timestamps.Absent → peerOffers syn .timestamps ≡ false
+  timestamps-not-offered lacks = rw lacks
+
+  pub sack-offered : peerOffers syn .sack ≡ syn .options .permitted
+  sack-offered = refl
+
+-- the record that is opened, in document 01's order
+pub record Opens (own : Setup) (clock : ℕ) (syn : Segment) (force : InForce) (k : Connection) : Type 0 where
+  pub rcv-shift : k .receive .shift ≡ force .shifts .receive
+  pub snd-shift : k .send .shift ≡ force .shifts .send
+  pub timestamps-in-force : k .timestamping .active ≡ force .timestamps
+  pub sack-in-force : k .sack ≡ force .sack
+  pub rcv-nxt : k .receive .nxt .0 ≡ (syn .seq .0 + 1) % 2 ^ 32
+  pub last-ack-sent : k .receive .acked .0 ≡ (syn .seq .0 + 1) % 2 ^ 32
+  pub rcv-window : k .receive .window ≡ own .window
+  pub snd-nxt : k .send .nxt .0 ≡ (own .iss .0 + 1) % 2 ^ 32
+  pub una-with-ack : syn .flags .ack ≡ true → k .send .una .0 ≡ (own .iss .0 + 1) % 2 ^ 32
+  pub una-without : syn .flags .ack ≡ false → k .send .una .0 ≡ own .iss .0
+  pub snd-window : k .send .window ≡ syn .window
+  pub wl1 : k .send .wl1 ≡ syn .seq
+  pub wl2-with-ack : syn .flags .ack ≡ true → k .send .wl2 .0 ≡ syn .ack .0
+  pub wl2-without : syn .flags .ack ≡ false → k .send .wl2 .0 ≡ own .iss .0
+  pub recent : (value echoed : Stamp) → force .timestamps ≡ true → syn .options .timestamps ≡ Timestamps.Pair value echoed
+      → k .timestamping .recent ≡ value
+  pub recent-none : force .timestamps ≡ false → k .timestamping .recent .0 ≡ 0
+  pub since : k .timestamping .since ≡ clock
+  pub offset : k .timestamping .offset ≡ own .offset
+  pub mss : (n : ℕ) → syn .options .mss ≡ Mss.Octets n → k .mss ≡ n
+  pub mss-none : syn .options .mss ≡ Mss.Absent → k .mss ≡ 536
+  pub no-ranges : rangesOf (k .receive .held) ≡ []
+  pub timer : k .timer ≡ record { srtt = 0; rttvar = 0; sampled = false; timeout = 1000 }
+
+module _ (own : Setup) (clock : ℕ) (syn : Segment) where
+  abbrev force : InForce
+  force = inForce (own .offers) (peerOffers syn)
+
+  record-opens : exceedLimits (own .offers) (own .window) ≡ false → Opens own clock syn force (recordFrom own clock syn)
+  unfolding recordFrom recordWith receive.opened send.opened timestamps.opened rangesOf heldOf
+  record-opens within =
+      let shifts = shifts-most (own .offers) (peerOffers syn) (own .window) within in
+      let window = window-most (own .offers) (own .window) within in
+      record {
+        rcv-shift = omega (arith, shifts .0);
+        snd-shift = omega (arith, shifts .1);
+        timestamps-in-force = refl;
+        sack-in-force = refl;
+        rcv-nxt = refl;
+        last-ack-sent = refl;
+        rcv-window = omega (arith, window);
+        snd-nxt = refl;
+        una-with-ack = λ flag. rw flag;
+        una-without = λ flag. rw flag;
+        snd-window = refl;
+        wl1 = refl;
+        wl2-with-ack = λ flag. rw flag;
+        wl2-without = λ flag. rw flag;
+        recent = λ value echoed active has. rw (active, has);
+        recent-none = λ off. rw off;
+        since = refl;
+        offset = refl;
+        mss = λ n has. rw has;
+        mss-none = λ lacks. rw lacks;
+        no-ranges = refl;
+        timer = refl;
+      }
+
+  pub opening-opens : (i : Incoming) → fieldsOf i ≡ some syn → openedBy own clock i .number ≡ 0
+      → Opens own clock syn force (openedBy own clock i .connection)
+  opening-opens i is opens =
+      let by = opened-by-fields own clock i syn is in
+      let gives = opening-gives own clock syn (sym (ap (λ (a : OpeningAnswer). a .number) by) ∙ opens) in
+      subst (Opens own clock syn force) (sym (ap (λ (a : OpeningAnswer). a .connection) by ∙ gives .record-is)) (record-opens (gives .within-limits))

@@ -104,8 +104,8 @@ module _ (k : Connection) (clock : ℕ) (i : Incoming) (s : Segment) (is : field
       → arrived k clock i .connection .timer ≡ k .timer
   sample-not-fed missing = timer-after ∙ ap (rto.run (k .timer)) (feeds-none k clock s missing)
 
--- a segment that is not taken leaves the timer, as it leaves the whole record
-pub not-taken-not-fed : (k : Connection) (clock : ℕ) (i : Incoming) → isTake (arrived k clock i .decision .action) ≡ false
-    → arrived k clock i .connection .timer ≡ k .timer
-not-taken-not-fed k clock (unread octets) drops = ap (λ (a : Arrival). a .connection .timer) (only-take k clock octets drops)
-not-taken-not-fed k clock (read s) drops = ap (λ (a : Arrival). a .connection .timer) (only-take-read k clock s drops)
+-- a segment that is not taken leaves the whole record, so its timer too
+pub not-taken-stays : (k : Connection) (clock : ℕ) (i : Incoming) → isTake (arrived k clock i .decision .action) ≡ false
+    → arrived k clock i .connection ≡ k
+not-taken-stays k clock (unread octets) drops = ap (λ (a : Arrival). a .connection) (only-take k clock octets drops)
+not-taken-stays k clock (read s) drops = ap (λ (a : Arrival). a .connection) (only-take-read k clock s drops)
