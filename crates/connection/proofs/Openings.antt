@@ -1,6 +1,6 @@
 -- An opening (document 01, "Opening"): E9, reading, E10, E11 in this order, and the record of one that is not refused, field by field; of
 -- octets and of fields read before. Assumes nothing.
-use mathlib.Core.Bool.{Bool, true, false, cond, not, _||_, and-false, or-true}
+use mathlib.Core.Bool.{Bool, true, false, cond, not, and-false, or-true}
 use mathlib.Core.List.{List, []}
 use mathlib.Core.Logic.{_⊎_, inl, inr}
 use mathlib.Core.Option.{Option, none, some, Option·elim}
@@ -29,7 +29,7 @@ use Rattle.send.specs.Send as send
 use Rattle.timestamps.specs.Timestamps as timestamps
 use Rattle.connection.specs.declared.Connection.{Connection}
 use Rattle.connection.specs.declared.Setup.{Setup}
-use Rattle.connection.specs.Opening.{OpeningAnswer, isNotSyn, isWrongAck, opening, openingFrom, openingRead, peerOffers, recordFrom, recordWith}
+use Rattle.connection.specs.Opening.{OpeningAnswer, isNotSyn, isWrongAck, mssOf, opening, openingFrom, openingRead, peerOffers, recordFrom, recordWith, refusedOpening, tsvalOf}
 use Rattle.connection.specs.Calls.{Incoming, fieldsOf, openedBy, read, unread}
 use Rattle.connection.proofs.Incoming.{opened-by-fields}
 
@@ -57,8 +57,10 @@ module _ (own : Setup) (clock : ℕ) where
   -- E9, whatever the segment is
   pub limits-refused : (i : Incoming) → exceedLimits (own .offers) (own .window) ≡ true → openedBy own clock i .number ≡ 9
   unfolding opening openingRead
-  limits-refused (unread octets) exceeds = rw exceeds
-  limits-refused (read syn) exceeds = rw exceeds
+  limits-refused (unread octets) exceeds =
+      let read = Option·elim (reading octets .fields) (refusedOpening (reading octets .number)) (openingFrom own clock) in
+      ap (λ b. cond b (refusedOpening 9) read .number) exceeds
+  limits-refused (read syn) exceeds = ap (λ b. cond b (refusedOpening 9) (openingFrom own clock syn) .number) exceeds
 
   module _ (within : exceedLimits (own .offers) (own .window) ≡ false) where
     -- reading's refusals
@@ -183,6 +185,9 @@ module _ (own : Setup) (clock : ℕ) (syn : Segment) where
   abbrev force : InForce
   force = inForce (own .offers) (peerOffers syn)
 
+  abbrev stampOf : Timestamps → Stamp
+  stampOf stamps = timestamps.stampOf (tsvalOf stamps)
+
   record-opens : exceedLimits (own .offers) (own .window) ≡ false → Opens own clock syn force (recordFrom own clock syn)
   unfolding recordFrom recordWith receive.opened send.opened timestamps.opened rangesOf heldOf
   record-opens within =
@@ -197,18 +202,20 @@ module _ (own : Setup) (clock : ℕ) (syn : Segment) where
         last-ack-sent = refl;
         rcv-window = omega (arith, window);
         snd-nxt = refl;
-        una-with-ack = λ flag. rw flag;
-        una-without = λ flag. rw flag;
+        una-with-ack = ap (λ b. cond b ((own .iss .0 + 1) % 2 ^ 32) (own .iss .0));
+        una-without = ap (λ b. cond b ((own .iss .0 + 1) % 2 ^ 32) (own .iss .0));
         snd-window = refl;
         wl1 = refl;
-        wl2-with-ack = λ flag. rw flag;
-        wl2-without = λ flag. rw flag;
-        recent = λ value echoed active has. rw (active, has);
-        recent-none = λ off. rw off;
+        wl2-with-ack = ap (λ b. cond b (syn .ack .0) (own .iss .0));
+        wl2-without = ap (λ b. cond b (syn .ack .0) (own .iss .0));
+        recent =
+            λ value echoed active has.
+            ap (λ b. cond b (stampOf (syn .options .timestamps)) (record { 0 = 0 })) active ∙ ap stampOf has;
+        recent-none = ap (λ b. cond b (stampOf (syn .options .timestamps)) (record { 0 = 0 }) .0);
         since = refl;
         offset = refl;
-        mss = λ n has. rw has;
-        mss-none = λ lacks. rw lacks;
+        mss = λ n. ap mssOf;
+        mss-none = ap mssOf;
         no-ranges = refl;
         timer = refl;
       }

@@ -1,6 +1,6 @@
 -- What a take gives, part by part, and when it feeds a sample to the timer (document 01, "What taking does"), of octets and of fields read
 -- before. Assumes nothing.
-use mathlib.Core.Bool.{true, false, cond, _&&_, and-false, false≢true}
+use mathlib.Core.Bool.{Bool, true, false, cond, _&&_, and-false, false≢true}
 use mathlib.Core.List.{List, [], _∷_}
 use mathlib.Core.Logic.{_⊎_, inl, inr}
 use mathlib.Core.Option.{some}
@@ -42,21 +42,29 @@ pub record Takes (k : Connection) (clock : ℕ) (s : Segment) (a : Arrival) : Ty
   pub sack-stays : a .connection .sack ≡ k .sack
   pub mss-stays : a .connection .mss ≡ k .mss
 
+-- what a take feeds to the timer: the sample R = (our timestamp - TSecr) mod 2^32, or nothing
 module _ (k : Connection) (clock : ℕ) (s : Segment) where
-  -- what a take feeds: the sample R = (our timestamp - TSecr) mod 2^32
+  abbrev by : Bool → Bool → Timestamps → List rto.Call
+  by active new stamps = cond (active && new) (sampleOf (k .timestamping) clock stamps) []
+
   feeds-one : (value echoed : Stamp) → k .timestamping .active ≡ true → s .options .timestamps ≡ Timestamps.Pair value echoed
       → send.isNew (k .send) (s .ack .0) ≡ true
       → fedBy k clock s ≡ rto.sample (roundTrip (stampAt clock (k .timestamping .offset)) (echoed .0)) ∷ []
   unfolding fedBy sampleOf
-  feeds-one value echoed active stamps new = rw (active, new, stamps)
+  feeds-one value echoed active stamps new =
+      ap (λ b. by b (send.isNew (k .send) (s .ack .0)) (s .options .timestamps)) active
+      ∙ (ap (λ b. by true b (s .options .timestamps)) new ∙ ap (by true true) stamps)
 
   feeds-none : (k .timestamping .active ≡ false) ⊎ ((s .options .timestamps ≡ Timestamps.Absent) ⊎ (send.isNew (k .send) (s .ack .0) ≡ false))
       → fedBy k clock s ≡ []
   unfolding fedBy sampleOf
-  feeds-none (inl off) = rw off
+  feeds-none (inl off) = ap (λ b. by b (send.isNew (k .send) (s .ack .0)) (s .options .timestamps)) off
   feeds-none (inr (inl none-here)) =
-      rw none-here (either (λ (l : List rto.Call). l ≡ []) (k .timestamping .active && send.isNew (k .send) (s .ack .0)) [] [] (λ _. refl) (λ _. refl))
-  feeds-none (inr (inr old)) = rw (old, and-false (k .timestamping .active))
+      ap (by (k .timestamping .active) (send.isNew (k .send) (s .ack .0))) none-here
+      ∙ either (λ (l : List rto.Call). l ≡ []) (k .timestamping .active && send.isNew (k .send) (s .ack .0)) [] [] (λ _. refl) (λ _. refl)
+  feeds-none (inr (inr old)) =
+      ap (λ b. by (k .timestamping .active) b (s .options .timestamps)) old
+      ∙ ap (λ b. cond b (sampleOf (k .timestamping) clock (s .options .timestamps)) []) (and-false (k .timestamping .active))
 
 module _ (k : Connection) (clock : ℕ) (i : Incoming) (s : Segment) (is : fieldsOf i ≡ some s)
     (takes : isTake (arrived k clock i .decision .action) ≡ true) where
