@@ -64,9 +64,9 @@ module _ (own : Setup) (clock : ℕ) where
 
   module _ (within : exceedLimits (own .offers) (own .window) ≡ false) where
     -- reading's refusals
-    pub unreadable-refused : (octets : List ℕ) → reading octets .fields ≡ none → openedBy own clock (unread octets) .number ≡ reading octets .number
+    pub unreadable-not-opened : (octets : List ℕ) → reading octets .fields ≡ none → openedBy own clock (unread octets) .number ≡ reading octets .number
     unfolding opening Option·elim
-    unreadable-refused octets is = rw (within, is)
+    unreadable-not-opened octets is = rw (within, is)
 
     module _ (i : Incoming) (syn : Segment) (is : fieldsOf i ≡ some syn) where
       by-tests : (not-syn wrong-ack : Bool) → isNotSyn syn ≡ not-syn → isWrongAck (own .iss .0) syn ≡ wrong-ack

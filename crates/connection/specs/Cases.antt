@@ -16,16 +16,15 @@ use Rattle.receive.specs.Window as receive
 use Rattle.rto.specs.Calls as rto
 use Rattle.rto.specs.Timer.{newTimer}
 use Rattle.segment.specs.Grammar.{isBroken, padding, paddingRule}
-use Rattle.segment.specs.Options.{blocksFrom, faultAt, faultIn, isRepeated, isWrongLength, lengthsOf, oneToFour, optionIn, optionsOf, standsIn}
+use Rattle.segment.specs.Options.{faultAt, faultIn, isRepeated, isWrongLength, lengthsOf, oneToFour, optionIn, optionsOf, standsIn}
 use Rattle.segment.specs.Reading.{optionsRead, reading, segmentOf}
 use Rattle.send.specs.Send as send
 use Rattle.timestamps.specs.Timestamps as timestamps
 use Rattle.connection.specs.declared.Connection.{Connection}
 use Rattle.connection.specs.declared.Setup.{Setup}
-use Rattle.connection.specs.Record.{blank}
 use Rattle.connection.specs.Opening.{OpeningAnswer, isNotSyn, isWrongAck, opening, openingFrom, recordFrom, recordWith}
 use Rattle.connection.specs.Verdict.{rows}
-use Rattle.connection.specs.Taking.{fedBy, listed, recordAfter, sampleOf}
+use Rattle.connection.specs.Taking.{fedBy, recordAfter, sampleOf}
 use Rattle.connection.specs.Arriving.{arriving, arrivingRead, judged, settled, takenBy}
 use Rattle.connection.specs.Operations.{sent, windowOpened}
 use Rattle.connection.specs.Calls.{Call, Opened, arrival, run, timerCalls, unread}
@@ -127,14 +126,7 @@ pub cases : (map (λ c. c .0) numbers ≡ map (λ c. c .1) numbers)
     × (opens 65535 0 2 .connection ≡ base)
     × (run base (ten 6000 ∷ ten 6100 ∷ ten 6200 ∷ ten 6300 ∷ ten 6400 ∷ ten 6500 ∷ ten 6600 ∷ ten 6700 ∷ []) ≡ full)
     × (timerCalls base timed ≡ rto.sample 57 ∷ [])
-unfolding numbers distanceOf offsetOf bigEndian numberAt exceedLimits inForce shiftsInForce heldOf isOutOfOrder joined leftOf meets noRoom
-    rangeOf rangesAfter rangesOf rightOf taking.advanced taking.holding taking.taken receive.acceptable receive.finInside
-    receive.isWindowRefused receive.lacksRoom receive.newPart receive.opened receive.windowOpened isBroken padding paddingRule blocksFrom
-    faultAt faultIn isRepeated isWrongLength lengthsOf oneToFour optionIn optionsOf standsIn optionsRead reading segmentOf send.opened send.isNew
-    send.acknowledged send.isCurrent send.isLater send.updatesWindow send.windowed send.taken send.exceedsWindow send.sent blank
-    isNotSyn isWrongAck opening openingFrom recordFrom recordWith timestamps.opened timestamps.isOld timestamps.isMissing timestamps.outdated
-    timestamps.valueBefore timestamps.isRecorded timestamps.replacesRecent timestamps.taken rows fedBy listed recordAfter sampleOf arriving
-    arrivingRead judged settled takenBy sent windowOpened Option·elim
+unfolding numbers distanceOf offsetOf bigEndian numberAt exceedLimits inForce shiftsInForce heldOf isOutOfOrder joined leftOf meets noRoom rangeOf rangesAfter rangesOf rightOf taking.holding taking.taken receive.acceptable receive.isWindowRefused receive.lacksRoom receive.newPart receive.opened receive.windowOpened isBroken padding paddingRule faultAt faultIn isRepeated isWrongLength lengthsOf oneToFour optionIn optionsOf standsIn optionsRead reading segmentOf send.opened send.isNew send.acknowledged send.isCurrent send.isLater send.updatesWindow send.windowed send.taken send.exceedsWindow send.sent isNotSyn isWrongAck opening openingFrom recordFrom recordWith timestamps.opened timestamps.isOld timestamps.isMissing timestamps.outdated timestamps.valueBefore timestamps.isRecorded timestamps.replacesRecent timestamps.taken rows fedBy recordAfter sampleOf arriving arrivingRead judged settled takenBy sent windowOpened Option·elim
 cases = (refl, refl, refl, refl)
 
 pub base-opened : Opened base
