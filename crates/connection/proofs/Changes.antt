@@ -129,7 +129,8 @@ module _ (k : Connection) where
         )
 
     -- and where it is below or above, E13, and the record stays
-    pub window-refused : (n < k .receive .window) ⊎ (65535 * 2 ^ (k .receive .shift) < n) → windowOpened k n ≡ record { number = 13; connection = k }
+    pub window-refused : (n < k .receive .window) ⊎ (65535 * 2 ^ (k .receive .shift) < n)
+        → windowOpened k n ≡ record { number = 13; connection = k }
     unfolding windowOpened receive.windowOpened receive.isWindowRefused
     window-refused (inl below) = rw (lt-ltb _ _ below)
     window-refused (inr above) = rw (lt-ltb _ _ above, or-true (ltb n (k .receive .window)))

@@ -64,7 +64,8 @@ module _ (own : Setup) (clock : ℕ) where
 
   module _ (within : exceedLimits (own .offers) (own .window) ≡ false) where
     -- reading's refusals
-    pub unreadable-not-opened : (octets : List ℕ) → reading octets .fields ≡ none → openedBy own clock (unread octets) .number ≡ reading octets .number
+    pub unreadable-not-opened : (octets : List ℕ) → reading octets .fields ≡ none
+        → openedBy own clock (unread octets) .number ≡ reading octets .number
     unfolding opening Option·elim
     unreadable-not-opened octets is = rw (within, is)
 
@@ -146,7 +147,8 @@ module _ (syn : Segment) where
   pub scale-not-offered : syn .options .scale ≡ WindowScale.Absent → peerOffers syn .scale ≡ Scale.Absent
   scale-not-offered lacks = rw lacks
 
-  pub timestamps-offered : (value echoed : Stamp) → syn .options .timestamps ≡ Timestamps.Pair value echoed → peerOffers syn .timestamps ≡ true
+  pub timestamps-offered : (value echoed : Stamp) → syn .options .timestamps ≡ Timestamps.Pair value echoed
+      → peerOffers syn .timestamps ≡ true
   timestamps-offered value echoed has = rw has
 
   pub timestamps-not-offered : syn .options .timestamps ≡ Timestamps.Absent → peerOffers syn .timestamps ≡ false
@@ -225,4 +227,5 @@ module _ (own : Setup) (clock : ℕ) (syn : Segment) where
   opening-opens i is opens =
       let by = opened-by-fields own clock i syn is in
       let gives = opening-gives own clock syn (sym (ap (λ (a : OpeningAnswer). a .number) by) ∙ opens) in
-      subst (Opens own clock syn force) (sym (ap (λ (a : OpeningAnswer). a .connection) by ∙ gives .record-is)) (record-opens (gives .within-limits))
+      let same = ap (λ (a : OpeningAnswer). a .connection) by ∙ gives .record-is in
+      subst (Opens own clock syn force) (sym same) (record-opens (gives .within-limits))

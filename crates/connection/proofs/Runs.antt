@@ -140,8 +140,8 @@ unfolding Demand3 rto-demand.Demand3
 demand-3-in-record k o calls stands = rw (timer-follows k o calls) (demand-3 (timerCalls k calls) stands)
 
 -- the claims' premises can be met: a record is opened, and a segment is taken whose sample is 57 ms
-worked : rto-demand.OnTime (run base timed .timer .timeout) (exactRun unset (timerCalls base timed))
+demand-3-in-record-worked : rto-demand.OnTime (run base timed .timer .timeout) (exactRun unset (timerCalls base timed))
 unfolding Demand3
-worked =
+demand-3-in-record-worked =
     demand-3-in-record base base-opened timed
     (record { before = []; rtt = 57; after = []; split = timed-feeds; not-refused = omega arith; last = tt })

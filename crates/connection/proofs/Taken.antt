@@ -108,7 +108,8 @@ module _ (k : Connection) (clock : ℕ) (i : Incoming) (s : Segment) (is : field
   sample-fed value echoed active stamps new = timer-after ∙ ap (rto.run (k .timer)) (feeds-one k clock s value echoed active stamps new)
 
   -- where one of the three is missing the timer stays
-  pub sample-not-fed : (k .timestamping .active ≡ false) ⊎ ((s .options .timestamps ≡ Timestamps.Absent) ⊎ (send.isNew (k .send) (s .ack .0) ≡ false))
+  pub sample-not-fed :
+      (k .timestamping .active ≡ false) ⊎ ((s .options .timestamps ≡ Timestamps.Absent) ⊎ (send.isNew (k .send) (s .ack .0) ≡ false))
       → arrived k clock i .connection .timer ≡ k .timer
   sample-not-fed missing = timer-after ∙ ap (rto.run (k .timer)) (feeds-none k clock s missing)
 

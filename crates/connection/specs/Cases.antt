@@ -126,7 +126,14 @@ pub cases : (map (λ c. c .0) numbers ≡ map (λ c. c .1) numbers)
     × (opens 65535 0 2 .connection ≡ base)
     × (run base (ten 6000 ∷ ten 6100 ∷ ten 6200 ∷ ten 6300 ∷ ten 6400 ∷ ten 6500 ∷ ten 6600 ∷ ten 6700 ∷ []) ≡ full)
     × (timerCalls base timed ≡ rto.sample 57 ∷ [])
-unfolding numbers distanceOf offsetOf bigEndian numberAt exceedLimits inForce shiftsInForce heldOf isOutOfOrder joined leftOf meets noRoom rangeOf rangesAfter rangesOf rightOf taking.holding taking.taken receive.acceptable receive.isWindowRefused receive.lacksRoom receive.newPart receive.opened receive.windowOpened isBroken padding paddingRule faultAt faultIn isRepeated isWrongLength lengthsOf oneToFour optionIn optionsOf standsIn optionsRead reading segmentOf send.opened send.isNew send.acknowledged send.isCurrent send.isLater send.updatesWindow send.windowed send.taken send.exceedsWindow send.sent isNotSyn isWrongAck opening openingFrom recordFrom recordWith timestamps.opened timestamps.isOld timestamps.isMissing timestamps.outdated timestamps.valueBefore timestamps.isRecorded timestamps.replacesRecent timestamps.taken rows fedBy recordAfter sampleOf arriving arrivingRead judged settled takenBy sent windowOpened Option·elim
+unfolding numbers distanceOf offsetOf bigEndian numberAt exceedLimits inForce shiftsInForce heldOf isOutOfOrder joined leftOf meets noRoom
+    rangeOf rangesAfter rangesOf rightOf taking.holding taking.taken receive.acceptable receive.isWindowRefused receive.lacksRoom
+    receive.newPart receive.opened receive.windowOpened isBroken padding paddingRule faultAt faultIn isRepeated isWrongLength lengthsOf
+    oneToFour optionIn optionsOf standsIn optionsRead reading segmentOf send.opened send.isNew send.acknowledged send.isCurrent send.isLater
+    send.updatesWindow send.windowed send.taken send.exceedsWindow send.sent isNotSyn isWrongAck opening openingFrom recordFrom recordWith
+    timestamps.opened timestamps.isOld timestamps.isMissing timestamps.outdated timestamps.valueBefore timestamps.isRecorded
+    timestamps.replacesRecent timestamps.taken rows fedBy recordAfter sampleOf arriving arrivingRead judged settled takenBy sent
+    windowOpened Option·elim
 cases = (refl, refl, refl, refl)
 
 pub base-opened : Opened base
