@@ -46,7 +46,7 @@ pub data Fact : Type 0 where
   octets : List ℕ → Fact
   ranges : List Range → Fact
 
--- what a segment tells the send side: SEQ, ACK, window
+-- the fields of a segment that the send side takes: SEQ, ACK, window
 ackFieldsOf : ℕ → ℕ → ℕ → AckFields
 ackFieldsOf seq ack window = record { seq = record { 0 = seq }; ack = record { 0 = ack }; window = window }
 
@@ -54,9 +54,9 @@ ackFieldsOf seq ack window = record { seq = record { 0 = seq }; ack = record { 0
 scaling : ℕ → Offers
 scaling shift = record { scale = Scale.Shift shift; timestamps = false; sack = false }
 
--- a segment of the peer: SEQ, options, octets of payload; and its arrival, without options
+-- a segment of the peer with ACK: SEQ, options, octets of payload; and its arrival, without options
 segment : ℕ → List ℕ → ℕ → List ℕ
-segment seq options payload = cases.octets seq 1000 cases.ack 9 options payload
+segment seq options payload = cases.octets seq 1000 16 9 options payload
 
 at : ℕ → ℕ → Call
 at seq payload = arrival 0 (unread (segment seq [] payload))
@@ -72,7 +72,7 @@ own = record {
 
 -- the record that a SYN with these options opens at clock 0; its SEQ is 4999, so RCV.NXT is 5000
 opened : List ℕ → Connection
-opened options = opening own 0 (cases.octets 4999 0 cases.syn 8192 options 0) .connection
+opened options = opening own 0 (cases.octets 4999 0 2 8192 options 0) .connection
 
 -- SACK-permitted, NOP, NOP
 permitted : List ℕ
@@ -141,8 +141,21 @@ unfolding ackFieldsOf scaling segment at own opened permitted optionOctets dista
     writing.othersWritten writing.fitting writing.optionsWritten writing.written writing.blocksOfList writing.writing ack.timestampsOf
     ack.blocksOf ack.optionsOf ack.acknowledging
 after lefts wl1 = record {
-  receive = cases.unscaledReceive 5500 65035 5000 (map (λ left. range left (left + 500)) lefts);
-  send = cases.unscaledSend 1000 1001 9 wl1 1000;
+  receive = record {
+    nxt = record { 0 = 5500 };
+    window = 65035;
+    shift = 0;
+    acked = record { 0 = 5000 };
+    held = heldOf (map (λ left. range left (left + 500)) lefts);
+  };
+  send = record {
+    una = record { 0 = 1000 };
+    nxt = record { 0 = 1001 };
+    window = 9;
+    shift = 0;
+    wl1 = record { 0 = wl1 };
+    wl2 = record { 0 = 1000 };
+  };
   timestamping = record { active = false; recent = record { 0 = 0 }; since = 0; offset = 0 };
   sack = false;
   mss = 536;

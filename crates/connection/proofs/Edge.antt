@@ -27,7 +27,7 @@ module _ (k : Connection) (h : Sound k) (clock : ℕ) where
   right-edge-stays-read s =
       either Stays (ltb clock (k .timestamping .since)) _ _ (λ _. refl)
       (λ _.
-      either Stays (isTake (decided (rows k clock s) .answer)) _ _
+      either Stays (isTake (decided (rows k clock s) .action)) _ _
       (λ _. search (receive.right-edge-stays (k .receive) (s .seq .0) (s .len) (h .receive-sound))) (λ _. refl))
 
   pub right-edge-stays : (octets : List ℕ) → Stays (arriving k clock octets)

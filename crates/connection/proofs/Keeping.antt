@@ -18,12 +18,12 @@ use Rattle.send.proofs.Sound as send-side
 use Rattle.connection.specs.declared.Connection.{Connection}
 use Rattle.connection.specs.declared.Setup.{Setup}
 use Rattle.connection.specs.Numbers.{Decision}
-use Rattle.connection.specs.Record.{Answer, Sound, blank}
-use Rattle.connection.specs.Opening.{isNotSyn, isWrongAck, opening, openingFrom, openingRead, peerOffers, recordFrom, recordWith, refusedOpening, ackFieldsOf}
+use Rattle.connection.specs.Record.{Sound, blank}
+use Rattle.connection.specs.Opening.{OpeningAnswer, isNotSyn, isWrongAck, opening, openingFrom, openingRead, peerOffers, recordFrom, recordWith, refusedOpening, ackFieldsOf}
 use Rattle.connection.specs.Verdict.{decided, rows}
 use Rattle.connection.specs.Taking.{fedBy, recordAfter}
 use Rattle.connection.specs.Arriving.{Arrival, arriving, arrivingRead, isTake, judged, settled, takenBy}
-use Rattle.connection.specs.Operations.{acknowledged, expired, sent, windowOpened}
+use Rattle.connection.specs.Operations.{CallAnswer, acknowledged, expired, sent, windowOpened}
 use Rattle.laws.proofs.Choices.{either, if-some}
 
 -- opening
@@ -47,32 +47,35 @@ record-sound own clock syn kept =
       timer-sound = sound-new;
     }
 
-abbrev SoundAnswer : Answer → Type 0
-SoundAnswer a = Sound (a .connection)
+abbrev pub SoundOpening : OpeningAnswer → Type 0
+SoundOpening a = Sound (a .connection)
 
 -- past E9
 module _ (own : Setup) (clock : ℕ) (kept : exceedLimits (own .offers) (own .window) ≡ false) where
   opening-from-sound : (syn : Segment) → Sound (openingFrom own clock syn .connection)
   unfolding openingFrom
   opening-from-sound syn =
-      either SoundAnswer (isNotSyn syn) (refusedOpening 10) _ (λ _. blank-sound)
+      either SoundOpening (isNotSyn syn) (refusedOpening 10) _ (λ _. blank-sound)
       (λ _.
-      either SoundAnswer (isWrongAck (own .iss .0) syn) (refusedOpening 11) _ (λ _. blank-sound) (λ _. record-sound own clock syn kept))
+      either SoundOpening (isWrongAck (own .iss .0) syn) (refusedOpening 11) _ (λ _. blank-sound) (λ _. record-sound own clock syn kept))
 
 pub opening-read-sound : (own : Setup) (clock : ℕ) (syn : Segment) → Sound (openingRead own clock syn .connection)
 unfolding openingRead
-opening-read-sound own clock syn = either SoundAnswer _ (refusedOpening 9) _ (λ _. blank-sound) (λ kept. opening-from-sound own clock kept syn)
+opening-read-sound own clock syn = either SoundOpening _ (refusedOpening 9) _ (λ _. blank-sound) (λ kept. opening-from-sound own clock kept syn)
 
 pub opening-sound : (own : Setup) (clock : ℕ) (octets : List ℕ) → Sound (opening own clock octets .connection)
 unfolding opening
 opening-sound own clock octets =
-    either SoundAnswer (exceedLimits (own .offers) (own .window)) (refusedOpening 9) _ (λ _. blank-sound)
+    either SoundOpening (exceedLimits (own .offers) (own .window)) (refusedOpening 9) _ (λ _. blank-sound)
     (λ kept.
-    if-some SoundAnswer (reading octets .fields) (refusedOpening (reading octets .number)) (openingFrom own clock) blank-sound
+    if-some SoundOpening (reading octets .fields) (refusedOpening (reading octets .number)) (openingFrom own clock) blank-sound
     (opening-from-sound own clock kept))
 
-abbrev SoundArrival : Arrival → Type 0
+abbrev pub SoundArrival : Arrival → Type 0
 SoundArrival a = Sound (a .connection)
+
+abbrev pub SoundAnswer : CallAnswer → Type 0
+SoundAnswer a = Sound (a .connection)
 
 -- an operation on a sound record
 module _ (k : Connection) (h : Sound k) where
@@ -87,7 +90,7 @@ module _ (k : Connection) (h : Sound k) where
   settled-sound : (clock : ℕ) (s : Segment) (d : Decision) → Sound (settled k clock s d .connection)
   unfolding settled takenBy
   settled-sound clock s d =
-      either SoundArrival (isTake (d .answer)) _ _ (λ _. search (record-after-sound clock s)) (λ _. search (h .receive-sound))
+      either SoundArrival (isTake (d .action)) _ _ (λ _. search (record-after-sound clock s)) (λ _. search (h .receive-sound))
 
   pub arriving-read-sound : (clock : ℕ) (s : Segment) → Sound (arrivingRead k clock s .connection)
   unfolding arrivingRead judged
@@ -129,10 +132,3 @@ module _ (k : Connection) (h : Sound k) where
     send-sound = h .send-sound;
     timer-sound = h .timer-sound;
   }
-
--- the same of an answer that equals one of these
-pub as-answered : (a b : Answer) → a ≡ b → Sound (b .connection) → Sound (a .connection)
-as-answered a b e h = rw e h
-
-pub as-arrived : (a b : Arrival) → a ≡ b → Sound (b .connection) → Sound (a .connection)
-as-arrived a b e h = rw e h

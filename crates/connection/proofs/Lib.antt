@@ -1,5 +1,10 @@
+pub mod Incoming
+pub mod Openings
 pub mod Table
+pub mod Rows
 pub mod OnlyTake
+pub mod Taken
+pub mod Changes
 pub mod Keeping
 pub mod Edge
 pub mod Runs

@@ -12,8 +12,7 @@ use Rattle.send.specs.Send as send
 use Rattle.connection.specs.declared.Connection.{Connection}
 use Rattle.connection.specs.declared.Setup.{Setup}
 use Rattle.connection.specs.Numbers.{Decision, refuse}
-use Rattle.connection.specs.Record.{Answer}
-use Rattle.connection.specs.Opening.{isNotSyn, isWrongAck, opening, openingFrom, openingRead, refusedOpening}
+use Rattle.connection.specs.Opening.{OpeningAnswer, isNotSyn, isWrongAck, opening, openingFrom, openingRead, refusedOpening}
 use Rattle.connection.specs.Verdict.{decided, rows}
 use Rattle.connection.specs.Arriving.{Arrival, arriving, arrivingRead, isTake, judged, settled, takenBy, unchanged}
 use Rattle.connection.specs.Operations.{sent, windowOpened, withReceive, withSend}
@@ -21,12 +20,12 @@ use Rattle.laws.proofs.Choices.{either, if-some}
 
 -- what is not taken leaves the record, and has no part, no FIN and no blocks
 abbrev Leaves : Connection → Arrival → Type 0
-Leaves k a = isTake (a .decision .answer) ≡ false → a ≡ unchanged k (a .decision)
+Leaves k a = isTake (a .decision .action) ≡ false → a ≡ unchanged k (a .decision)
 
 settled-leaves : (k : Connection) (clock : ℕ) (s : Segment) (d : Decision) → Leaves k (settled k clock s d)
 unfolding settled takenBy
 settled-leaves k clock s d =
-    either (Leaves k) (isTake (d .answer)) (takenBy k clock s) (unchanged k d) (λ _ e. absurd (false≢true (sym e))) (λ _ e. refl)
+    either (Leaves k) (isTake (d .action)) (takenBy k clock s) (unchanged k d) (λ _ e. absurd (false≢true (sym e))) (λ _ e. refl)
 
 pub only-take-read : (k : Connection) (clock : ℕ) (s : Segment) → Leaves k (arrivingRead k clock s)
 unfolding arrivingRead judged
@@ -37,12 +36,12 @@ pub only-take : (k : Connection) (clock : ℕ) (octets : List ℕ) → Leaves k 
 unfolding arriving
 only-take k clock octets = if-some (Leaves k) (reading octets .fields) _ (arrivingRead k clock) (λ e. refl) (only-take-read k clock)
 
-pub refusal-leaves : (k : Connection) (clock : ℕ) (octets : List ℕ) → arriving k clock octets .decision .answer ≡ refuse
+pub refusal-leaves : (k : Connection) (clock : ℕ) (octets : List ℕ) → arriving k clock octets .decision .action ≡ refuse
     → arriving k clock octets ≡ unchanged k (arriving k clock octets .decision)
 refusal-leaves k clock octets e = only-take k clock octets (rw e refl)
 
 -- a refused opening gives the blank record
-abbrev Blank : Answer → Type 0
+abbrev Blank : OpeningAnswer → Type 0
 Blank a = (a .number ≡ 0 → ⊥) → a ≡ refusedOpening (a .number)
 
 module _ (own : Setup) (clock : ℕ) where

@@ -1,39 +1,33 @@
 -- Over any list of calls: records stay sound, and a record's timer is the free-standing timer after the calls made on it, so that demand 3
 -- holds in a record. Assumes nothing.
 use mathlib.Core.Bool.{Bool, true, false, cond}
-use mathlib.Core.List.{List, [], _∷_, _++_}
+use mathlib.Core.List.{List, [], _∷_, _++_, append-assoc}
 use mathlib.Core.Option.{Option, none, some, Option·elim}
 use mathlib.Core.Path.{_≡_, refl, sym, ap, subst, _∙_}
 use Prim.Native.Nat.{ℕ}
 use native.Mathlib.Omega.{arith}
 use lib.Dec.{ltb}
-use lib.ListN.{getD}
 use Rattle.rto.specs.Calls as rto
 use Rattle.rto.specs.Demand as rto-demand
 use Rattle.rto.specs.Exact.{exactRun, unset}
 use Rattle.rto.specs.Timer.{newTimer}
 use Rattle.rto.specs.declared.Timer.{Timer}
 use Rattle.rto.proofs.Bound.{demand-3}
-use Rattle.segment.specs.Reading.{readAs, reading}
+use Rattle.segment.specs.Reading.{reading}
 use Rattle.segment.specs.declared.Segment.{Segment}
-use Rattle.segment.specs.declared.Timestamps.{Timestamps}
-use Rattle.send.specs.Send.{isNew}
-use Rattle.serial.specs.Serial.{roundTrip, stampAt}
-use Rattle.serial.specs.declared.Stamp.{Stamp}
 use Rattle.offers.specs.Offers.{exceedLimits}
 use Rattle.connection.specs.declared.Connection.{Connection}
 use Rattle.connection.specs.declared.Setup.{Setup}
 use Rattle.connection.specs.Numbers.{Decision}
-use Rattle.connection.specs.Record.{Answer, Sound, blank}
-use Rattle.connection.specs.Opening.{isNotSyn, isWrongAck, opening, openingFrom, openingRead, recordFrom, recordWith}
+use Rattle.connection.specs.Record.{Sound, blank}
+use Rattle.connection.specs.Opening.{OpeningAnswer, isNotSyn, isWrongAck, opening, openingFrom, openingRead, recordFrom, recordWith}
 use Rattle.connection.specs.Verdict.{decided, rows}
-use Rattle.connection.specs.Taking.{fedBy, recordAfter, sampleOf}
+use Rattle.connection.specs.Taking.{fedBy, recordAfter}
 use Rattle.connection.specs.Arriving.{arriving, arrivingRead, isTake, judged, refusedWith, settled, takenBy, unchanged}
 use Rattle.connection.specs.Operations.{acknowledged, expired, sent, windowOpened}
-use Rattle.connection.specs.Calls.{Call, Incoming, Opened, acknowledgment, arrival, called, expiry, fieldsOf, openedBy, read, run, sending, timerCall, timerCalls, unread, window}
+use Rattle.connection.specs.Calls.{Call, Incoming, Opened, acknowledgment, arrival, called, expiry, openedBy, read, run, sending, timerCall, timerCalls, unread, window}
 use Rattle.connection.specs.Demand.{Demand3, SoundAlways, TimerFollows}
-use Rattle.connection.specs.Cases.{base, fin, octets, stamps}
-use Rattle.connection.specs.Witnesses.{base-opened, fedCalls, witnesses}
+use Rattle.connection.specs.Cases.{base, base-opened, timed, timed-feeds}
 use Rattle.laws.proofs.Choices.{either, if-some}
 use Rattle.connection.proofs.Keeping.{acknowledged-sound, arriving-read-sound, arriving-sound, expired-sound, opening-read-sound, opening-sound, sent-sound, window-sound}
 
@@ -41,20 +35,20 @@ use Rattle.connection.proofs.Keeping.{acknowledged-sound, arriving-read
 module _ (k : Connection) (clock : ℕ) where
   settled-timer : (s : Segment) (d : Decision)
       → settled k clock s d .connection .timer
-      ≡ rto.run (k .timer) (cond (isTake (settled k clock s d .decision .answer)) (fedBy k clock s) [])
+      ≡ rto.run (k .timer) (cond (isTake (settled k clock s d .decision .action)) (fedBy k clock s) [])
   unfolding settled takenBy recordAfter
-  settled-timer s d = pick (isTake (d .answer)) refl
+  settled-timer s d = pick (isTake (d .action)) refl
     where
-      pick : (t : Bool) → isTake (d .answer) ≡ t
+      pick : (t : Bool) → isTake (d .action) ≡ t
           → cond t (takenBy k clock s) (unchanged k d) .connection .timer
-          ≡ rto.run (k .timer) (cond (isTake (cond t (takenBy k clock s) (unchanged k d) .decision .answer)) (fedBy k clock s) [])
+          ≡ rto.run (k .timer) (cond (isTake (cond t (takenBy k clock s) (unchanged k d) .decision .action)) (fedBy k clock s) [])
       pick true e = refl
       pick false e = rw e refl
 
   arrival-timer : (number : ℕ) (fields : Option Segment)
       → Option·elim fields (unchanged k (refusedWith number)) (arrivingRead k clock) .connection .timer
       ≡ rto.run (k .timer)
-      (cond (isTake (Option·elim fields (unchanged k (refusedWith number)) (arrivingRead k clock) .decision .answer))
+      (cond (isTake (Option·elim fields (unchanged k (refusedWith number)) (arrivingRead k clock) .decision .action))
       (Option·elim fields [] (fedBy k clock)) [])
   unfolding Option·elim arrivingRead judged
   arrival-timer number none = refl
@@ -62,7 +56,7 @@ module _ (k : Connection) (clock : ℕ) where
     where
       pick : (b : Bool) → cond b (unchanged k (refusedWith 8)) (judged k clock s) .connection .timer
           ≡ rto.run (k .timer)
-          (cond (isTake (cond b (unchanged k (refusedWith 8)) (judged k clock s) .decision .answer)) (fedBy k clock s) [])
+          (cond (isTake (cond b (unchanged k (refusedWith 8)) (judged k clock s) .decision .action)) (fedBy k clock s) [])
       pick true = refl
       pick false = settled-timer s (decided (rows k clock s))
 
@@ -75,29 +69,30 @@ called-timer k (window n) = refl
 called-timer k expiry = refl
 called-timer k acknowledgment = refl
 
--- A take with a new ACK feeds its sample, whatever the timer is: said apart from what the list of calls is made of.
-pub sample-fed : (k : Connection) (clock : ℕ) (octets : List ℕ) (s : Segment) (value echoed : Stamp) → reading octets ≡ readAs s
-    → s .options .timestamps ≡ Timestamps.Pair value echoed → k .timestamping .active ≡ true → isNew (k .send) (s .ack .0) ≡ true
-    → isTake (arriving k clock octets .decision .answer) ≡ true
-    → arriving k clock octets .connection .timer
-    ≡ rto.called (k .timer) (rto.sample (roundTrip (stampAt clock (k .timestamping .offset)) (echoed .0)))
-unfolding fedBy sampleOf Option·elim
-sample-fed k clock octets s value echoed is stamps active new takes =
-    called-timer k (arrival clock (unread octets)) ∙ rw (takes, fieldsOf, is, active, new, stamps)
+-- a list of calls, then another
+pub run-append : (k : Connection) (cs ds : List Call) → run k (cs ++ ds) ≡ run (run k cs) ds
+run-append k [] ds = refl
+run-append k (c ∷ cs) ds = run-append (called k c) cs ds
 
-run-append : (t : Timer) (cs ds : List rto.Call) → rto.run t (cs ++ ds) ≡ rto.run (rto.run t cs) ds
-run-append t [] ds = refl
-run-append t (c ∷ cs) ds = run-append (rto.called t c) cs ds
+pub timer-calls-append : (k : Connection) (cs ds : List Call) → timerCalls k (cs ++ ds) ≡ timerCalls k cs ++ timerCalls (run k cs) ds
+timer-calls-append k [] ds = refl
+timer-calls-append k (c ∷ cs) ds =
+    ap (λ later. timerCall k c ++ later) (timer-calls-append (called k c) cs ds)
+    ∙ sym (append-assoc (timerCall k c) (timerCalls (called k c) cs) (timerCalls (run (called k c) cs) ds))
+
+timer-append : (t : Timer) (cs ds : List rto.Call) → rto.run t (cs ++ ds) ≡ rto.run (rto.run t cs) ds
+timer-append t [] ds = refl
+timer-append t (c ∷ cs) ds = timer-append (rto.called t c) cs ds
 
 run-timer : (calls : List Call) (k : Connection) → run k calls .timer ≡ rto.run (k .timer) (timerCalls k calls)
 run-timer [] k = refl
 run-timer (c ∷ cs) k =
     run-timer cs (called k c)
     ∙ (ap (λ t. rto.run t (timerCalls (called k c) cs)) (called-timer k c)
-    ∙ sym (run-append (k .timer) (timerCall k c) (timerCalls (called k c) cs)))
+    ∙ sym (timer-append (k .timer) (timerCall k c) (timerCalls (called k c) cs)))
 
 -- the timer is new at opening
-abbrev New : Answer → Type 0
+abbrev New : OpeningAnswer → Type 0
 New a = a .connection .timer ≡ newTimer
 
 module _ (own : Setup) (clock : ℕ) where
@@ -144,19 +139,9 @@ pub demand-3-in-record : Demand3
 unfolding Demand3 rto-demand.Demand3
 demand-3-in-record k o calls stands = rw (timer-follows k o calls) (demand-3 (timerCalls k calls) stands)
 
--- The claim's premise can be met: a record is opened, and a segment is taken whose sample is 57 ms.
-abbrev timed : List Call
-timed = arrival 150 (unread (octets 5000 1001 fin 9 (stamps 60 100) 500)) ∷ []
-
+-- the claims' premises can be met: a record is opened, and a segment is taken whose sample is 57 ms
 demand-3-in-record-worked : rto-demand.OnTime (run base timed .timer .timeout) (exactRun unset (timerCalls base timed))
-unfolding Demand3 fedCalls
+unfolding Demand3
 demand-3-in-record-worked =
     demand-3-in-record base base-opened timed
-    (record {
-      before = [];
-      rtt = 57;
-      after = [];
-      split = ap (λ l. getD l 0 [] ++ []) (witnesses .7);
-      not-refused = omega arith;
-      last = tt;
-    })
+    (record { before = []; rtt = 57; after = []; split = timed-feeds; not-refused = omega arith; last = tt })

@@ -12,7 +12,7 @@ use Rattle.segment.specs.Reading.{reading}
 use Rattle.segment.specs.declared.Segment.{Segment}
 use Rattle.connection.specs.declared.Arrival as declared
 use Rattle.connection.specs.declared.Connection.{Connection}
-use Rattle.connection.specs.Numbers.{Answer, Decision, dropSilent, dropWithAck, outcomeOf, refuse, reset, take}
+use Rattle.connection.specs.Numbers.{Action, Decision, dropSilent, dropWithAck, outcomeOf, refuse, reset, take}
 use Rattle.connection.specs.Verdict.{decided, rows}
 use Rattle.connection.specs.Taking.{listed, recordAfter}
 
@@ -29,18 +29,18 @@ abbrev pub unchanged : Connection → Decision → Arrival
 unchanged k d = record { decision = d; part = record { from = 0; to = 0 }; fin = false; blocks = []; connection = k }
 
 abbrev pub refusedWith : ℕ → Decision
-refusedWith number = record { number = number; answer = refuse }
+refusedWith number = record { number = number; action = refuse }
 
 unfoldable pub takenBy : Connection → ℕ → Segment → Arrival
 takenBy k clock s = record {
-  decision = record { number = 0; answer = take };
+  decision = record { number = 0; action = take };
   part = newPart (k .receive) (s .seq .0) (s .len);
   fin = finInside (k .receive) (s .seq .0) (s .len) (s .flags .fin);
   blocks = listed (recordAfter k clock s) s;
   connection = recordAfter k clock s;
 }
 
-abbrev pub isTake : Answer → Bool
+abbrev pub isTake : Action → Bool
 isTake take = true
 isTake reset = false
 isTake dropSilent = false
@@ -49,7 +49,7 @@ isTake refuse = false
 
 -- only take changes the record
 unfoldable pub settled : Connection → ℕ → Segment → Decision → Arrival
-settled k clock s d = cond (isTake (d .answer)) (takenBy k clock s) (unchanged k d)
+settled k clock s d = cond (isTake (d .action)) (takenBy k clock s) (unchanged k d)
 
 unfoldable pub judged : Connection → ℕ → Segment → Arrival
 judged k clock s = settled k clock s (decided (rows k clock s))

@@ -9,8 +9,7 @@ use Rattle.segment.specs.Reading.{reading}
 use Rattle.segment.specs.declared.Segment.{Segment}
 use Rattle.connection.specs.declared.Connection.{Connection}
 use Rattle.connection.specs.declared.Setup.{Setup}
-use Rattle.connection.specs.Record.{Answer}
-use Rattle.connection.specs.Opening.{opening, openingRead}
+use Rattle.connection.specs.Opening.{OpeningAnswer, opening, openingRead}
 use Rattle.connection.specs.Taking.{fedBy}
 use Rattle.connection.specs.Arriving.{Arrival, arriving, arrivingRead, isTake}
 use Rattle.connection.specs.Operations.{acknowledged, expired, sent, windowOpened}
@@ -24,7 +23,7 @@ abbrev pub fieldsOf : Incoming → Option Segment
 fieldsOf (unread octets) = reading octets .fields
 fieldsOf (read s) = some s
 
-abbrev pub openedBy : Setup → ℕ → Incoming → Answer
+abbrev pub openedBy : Setup → ℕ → Incoming → OpeningAnswer
 openedBy own clock (unread octets) = opening own clock octets
 openedBy own clock (read syn) = openingRead own clock syn
 
@@ -62,7 +61,7 @@ run k (c ∷ cs) = run (called k c) cs
 
 -- what an arrival feeds to the timer: the sample of a segment that is taken
 abbrev pub fed : Connection → ℕ → Incoming → List rto.Call
-fed k clock s = cond (isTake (arrived k clock s .decision .answer)) (Option·elim (fieldsOf s) [] (fedBy k clock)) []
+fed k clock s = cond (isTake (arrived k clock s .decision .action)) (Option·elim (fieldsOf s) [] (fedBy k clock)) []
 
 abbrev pub timerCall : Connection → Call → List rto.Call
 timerCall k (arrival clock s) = fed k clock s

@@ -1,25 +1,33 @@
--- Segments and records of which the worked cases are made.
+-- One case for each verdict and each refusal number that the calls of this crate give, computed from the definitions under one statement, of
+-- records that an opening gave, or an opening and the segments after it. Flags are 2 for SYN, 4 for RST, 16 for ACK.
 use Prim.Native.Nat.{ℕ, _+_, _*_, _/_}
-use mathlib.Core.Bool.{Bool, true, false}
-use mathlib.Core.List.{List, [], _∷_, _++_}
+use mathlib.Core.Bool.{true, false}
+use mathlib.Core.List.{List, [], _∷_, _++_, map}
+use mathlib.Core.Option.{Option·elim}
+use mathlib.Core.Path.{_≡_, refl}
 use lib.ListN.{length, replicate}
-use Rattle.serial.specs.Serial.{range}
-use Rattle.serial.specs.declared.Range.{Range}
-use Rattle.octets.specs.Octets.{bigEndian}
+use Rattle.serial.specs.Serial.{distanceOf, offsetOf, range}
+use Rattle.octets.specs.Octets.{bigEndian, numberAt}
+use Rattle.offers.specs.Offers.{exceedLimits, inForce, shiftsInForce}
 use Rattle.offers.specs.declared.Scale.{Scale}
-use Rattle.receive.specs.Ranges.{heldOf}
-use Rattle.receive.specs.declared.Receive.{Receive}
-use Rattle.rto.specs.declared.Timer.{Timer}
-use Rattle.send.specs.declared.Send.{Send}
-use Rattle.timestamps.specs.declared.Timestamping.{Timestamping}
+use Rattle.receive.specs.Ranges.{heldOf, isOutOfOrder, joined, leftOf, meets, noRoom, rangeOf, rangesAfter, rangesOf, rightOf}
+use Rattle.receive.specs.Taking as taking
+use Rattle.receive.specs.Window as receive
+use Rattle.rto.specs.Calls as rto
+use Rattle.rto.specs.Timer.{newTimer}
+use Rattle.segment.specs.Grammar.{isBroken, padding, paddingRule}
+use Rattle.segment.specs.Options.{faultAt, faultIn, isRepeated, isWrongLength, lengthsOf, oneToFour, optionIn, optionsOf, standsIn}
+use Rattle.segment.specs.Reading.{optionsRead, reading, segmentOf}
+use Rattle.send.specs.Send as send
+use Rattle.timestamps.specs.Timestamps as timestamps
 use Rattle.connection.specs.declared.Connection.{Connection}
 use Rattle.connection.specs.declared.Setup.{Setup}
-use Rattle.connection.specs.Numbers.{Answer, Decision}
-use Rattle.connection.specs.Record as record-of
-use Rattle.connection.specs.Arriving.{Arrival}
-
-abbrev pub decision : ℕ → Answer → Decision
-decision number answer = record { number = number; answer = answer }
+use Rattle.connection.specs.Opening.{OpeningAnswer, isNotSyn, isWrongAck, opening, openingFrom, recordFrom, recordWith}
+use Rattle.connection.specs.Verdict.{rows}
+use Rattle.connection.specs.Taking.{fedBy, recordAfter, sampleOf}
+use Rattle.connection.specs.Arriving.{arriving, arrivingRead, judged, settled, takenBy}
+use Rattle.connection.specs.Operations.{sent, windowOpened}
+use Rattle.connection.specs.Calls.{Call, Opened, arrival, run, timerCalls, unread}
 
 -- octets of a segment: SEQ, ACK, flags, window, options and payload
 abbrev pub octets : ℕ → ℕ → ℕ → ℕ → List ℕ → ℕ → List ℕ
@@ -27,149 +35,109 @@ octets seq ack flags field options payload =
     bigEndian 2 40001 ++ (bigEndian 2 443 ++ (bigEndian 4 seq ++ (bigEndian 4 ack
     ++ ((16 * (5 + length options / 4)) ∷ flags ∷ (bigEndian 2 field ++ (replicate 4 0 ++ (options ++ replicate payload 170)))))))
 
--- NOP, NOP and timestamps; a SACK option of two blocks after two NOPs
+-- NOP, NOP and timestamps
 abbrev pub stamps : ℕ → ℕ → List ℕ
 stamps value echoed = 1 ∷ 1 ∷ 8 ∷ 10 ∷ (bigEndian 4 value ++ bigEndian 4 echoed)
 
-abbrev pub sacks : ℕ → ℕ → ℕ → ℕ → List ℕ
-sacks a b c d = 1 ∷ 1 ∷ 5 ∷ 18 ∷ (bigEndian 4 a ++ (bigEndian 4 b ++ (bigEndian 4 c ++ bigEndian 4 d)))
-
--- a SACK option of four blocks after two NOPs
-abbrev pub fourBlocks : List ℕ
-fourBlocks =
-    1 ∷ 1 ∷ 5 ∷ 34
-    ∷ (bigEndian 4 4000 ++ (bigEndian 4 4100 ++ (bigEndian 4 2000 ++ (bigEndian 4 2100
-    ++ (bigEndian 4 3000 ++ (bigEndian 4 3100 ++ (bigEndian 4 1100 ++ bigEndian 4 1200)))))))
-
--- flags; FIN comes with ACK
-abbrev pub fin : ℕ
-fin = 17
-
-abbrev pub syn : ℕ
-syn = 2
-
-abbrev pub rst : ℕ
-rst = 4
-
-abbrev pub ack : ℕ
-ack = 16
-
--- a SYN's options: MSS 1460, SACK-permitted, timestamps, NOP, window scale
-abbrev pub synOptions : ℕ → ℕ → List ℕ
-synOptions value shift = 2 ∷ 4 ∷ 5 ∷ 180 ∷ 4 ∷ 2 ∷ 8 ∷ 10 ∷ (bigEndian 4 value ++ (bigEndian 4 0 ++ (1 ∷ 3 ∷ 3 ∷ shift ∷ [])))
-
--- own offers: shift 2, timestamps, SACK; first window 65,535; our timestamp is the clock and 7 more
-abbrev pub own : Setup
-own = record {
+-- timestamps offered; our timestamp is the clock and 7 more. Given is the first window.
+abbrev own : ℕ → Setup
+own window = record {
   iss = record { 0 = 1000 };
-  offers = record { scale = Scale.Shift 2; timestamps = true; sack = true };
-  window = 65535;
+  offers = record { scale = Scale.Absent; timestamps = true; sack = false };
+  window = window;
   offset = 7;
 }
 
-abbrev pub setup : ℕ → Scale → ℕ → Setup
-setup iss scale first =
-    record { iss = record { 0 = iss }; offers = record { scale = scale; timestamps = false; sack = false }; window = first; offset = 7 }
+-- an opening at clock 100: first window, ACK, flags
+abbrev opens : ℕ → ℕ → ℕ → OpeningAnswer
+opens window ack flags = opening (own window) 100 (octets 4999 ack flags 9 (stamps 50 0) 0)
 
--- a new timer
-abbrev pub newly : Timer
-newly = record { srtt = 0; rttvar = 0; sampled = false; timeout = 1000 }
-
--- the parts of a record with everything in force: shift 2 for the receive window, 3 for the send window, offset 7
-abbrev pub receiveSide : ℕ → ℕ → ℕ → List Range → Receive
-receiveSide nxt window acked ranges =
-    record { nxt = record { 0 = nxt }; window = window; shift = 2; acked = record { 0 = acked }; held = heldOf ranges }
-
-abbrev pub sendSide : ℕ → ℕ → ℕ → ℕ → ℕ → Send
-sendSide una nxt window wl1 wl2 = record {
-  una = record { 0 = una };
-  nxt = record { 0 = nxt };
-  window = window;
-  shift = 3;
-  wl1 = record { 0 = wl1 };
-  wl2 = record { 0 = wl2 };
+-- the record so opened, where ten octets came from each of these numbers on, the newest first, and WL1
+abbrev holding : List ℕ → ℕ → Connection
+holding lefts wl1 = record {
+  receive = record {
+    nxt = record { 0 = 5000 };
+    window = 65535;
+    shift = 0;
+    acked = record { 0 = 5000 };
+    held = heldOf (map (λ left. range left (left + 10)) lefts);
+  };
+  send = record {
+    una = record { 0 = 1000 };
+    nxt = record { 0 = 1001 };
+    window = 9;
+    shift = 0;
+    wl1 = record { 0 = wl1 };
+    wl2 = record { 0 = 1000 };
+  };
+  timestamping = record { active = true; recent = record { 0 = 50 }; since = 100; offset = 7 };
+  sack = false;
+  mss = 536;
+  timer = newTimer;
 }
 
-abbrev pub recorded : ℕ → ℕ → Timestamping
-recorded recent since = record { active = true; recent = record { 0 = recent }; since = since; offset = 7 }
-
-abbrev pub connected : Receive → Send → Timestamping → Timer → Connection
-connected receive send timestamping timer =
-    record { receive = receive; send = send; timestamping = timestamping; sack = true; mss = 1460; timer = timer }
-
--- the record that the SYN of 4999 with TSval 50 opens at clock 100
 abbrev pub base : Connection
-base = connected (receiveSide 5000 65535 5000 []) (sendSide 1000 1001 8192 4999 1000) (recorded 50 100) newly
+base = holding [] 4999
 
--- a record without scaling, in which TS.Recent is 0 and was set at 100: whether timestamps and SACK are in force, MSS, and its parts
-abbrev pub unscaledReceive : ℕ → ℕ → ℕ → List Range → Receive
-unscaledReceive nxt window acked ranges =
-    record { nxt = record { 0 = nxt }; window = window; shift = 0; acked = record { 0 = acked }; held = heldOf ranges }
+abbrev full : Connection
+full = holding (6700 ∷ 6600 ∷ 6500 ∷ 6400 ∷ 6300 ∷ 6200 ∷ 6100 ∷ 6000 ∷ []) 6700
 
-abbrev pub unscaledSend : ℕ → ℕ → ℕ → ℕ → ℕ → Send
-unscaledSend una nxt window wl1 wl2 = record {
-  una = record { 0 = una };
-  nxt = record { 0 = nxt };
-  window = window;
-  shift = 0;
-  wl1 = record { 0 = wl1 };
-  wl2 = record { 0 = wl2 };
-}
+-- ten octets from a number on
+abbrev ten : ℕ → Call
+ten seq = arrival 100 (unread (octets seq 1000 16 9 (stamps 50 0) 10))
 
-abbrev pub unscaled : Bool → Bool → ℕ → Receive → Send → Timer → Connection
-unscaled timestamps sack mss receive send timer = record {
-  receive = receive;
-  send = send;
-  timestamping = record { active = timestamps; recent = record { 0 = 0 }; since = 100; offset = 7 };
-  sack = sack;
-  mss = mss;
-  timer = timer;
-}
+-- the number of an arrival at clock 150
+abbrev at : Connection → ℕ → ℕ → ℕ → List ℕ → ℕ → ℕ
+at k seq ack flags options payload = arriving k 150 (octets seq ack flags 9 options payload) .decision .number
 
--- a record without any extension in force, and the one that a SYN without options opens
-abbrev pub bare : ℕ → ℕ → List Range → ℕ → ℕ → Connection
-bare nxt window ranges sndWnd wl1 =
-    unscaled false false 536 (unscaledReceive nxt window 5000 ranges) (unscaledSend 1000 1001 sndWnd wl1 1000) newly
+pub numbers : List (ℕ × ℕ)
+numbers =
+    (opens 65535 0 2 .number, 0)
+    ∷ (opens 65536 0 2 .number, 9)
+    ∷ (opens 65535 0 16 .number, 10)
+    ∷ (opens 65535 1000 18 .number, 11)
+    ∷ (arriving base 99 [] .decision .number, 1)
+    ∷ (arriving base 99 (replicate 65536 80) .decision .number, 2)
+    ∷ (arriving base 99 (replicate 20 0) .decision .number, 3)
+    ∷ (at base 5000 1001 16 (8 ∷ 9 ∷ 0 ∷ 0 ∷ []) 0, 4)
+    ∷ (at base 5000 1001 16 (2 ∷ 3 ∷ 0 ∷ 0 ∷ []) 0, 5)
+    ∷ (at base 5000 1001 16 (4 ∷ 2 ∷ 4 ∷ 2 ∷ []) 0, 6)
+    ∷ (arriving base 99 (octets 5000 1001 16 9 (stamps 60 0) 0) .decision .number, 8)
+    ∷ (at base 5000 1001 16 [] 0, 21)
+    ∷ (at base 5000 1001 16 (stamps 49 0) 0, 22)
+    ∷ (at base 4999 1001 4 (stamps 60 0) 0, 23)
+    ∷ (at base 4999 1001 16 (stamps 60 0) 0, 24)
+    ∷ (at base 5000 1001 4 (stamps 60 0) 0, 25)
+    ∷ (at base 5001 1001 4 (stamps 60 0) 0, 26)
+    ∷ (at base 5000 1001 2 (stamps 60 0) 0, 27)
+    ∷ (at base 5000 1001 0 (stamps 60 0) 0, 28)
+    ∷ (at base 5000 1002 16 (stamps 60 0) 0, 29)
+    ∷ (at full 6800 1001 16 (stamps 60 0) 10, 30)
+    ∷ (at base 5000 1001 16 (stamps 60 0) 10, 0)
+    ∷ (sent base 9 .number, 12)
+    ∷ (windowOpened base 65534 .number, 13)
+    ∷ []
 
-abbrev pub plain : Connection
-plain = bare 5000 65535 [] 8192 4999
+-- a segment whose sample is 57 ms
+abbrev pub timed : List Call
+timed = arrival 150 (unread (octets 5000 1001 16 9 (stamps 60 100) 0)) ∷ []
 
--- octets sent up to 5,001, with timestamps or SACK in force
-abbrev pub outstanding : Bool → Bool → ℕ → Timer → Connection
-outstanding timestamps sack una timer =
-    unscaled timestamps sack 536 (unscaledReceive 5000 65535 5000 []) (unscaledSend una 5001 9 5000 una) timer
+pub cases : (map (λ c. c .0) numbers ≡ map (λ c. c .1) numbers)
+    × (opens 65535 0 2 .connection ≡ base)
+    × (run base (ten 6000 ∷ ten 6100 ∷ ten 6200 ∷ ten 6300 ∷ ten 6400 ∷ ten 6500 ∷ ten 6600 ∷ ten 6700 ∷ []) ≡ full)
+    × (timerCalls base timed ≡ rto.sample 57 ∷ [])
+unfolding numbers distanceOf offsetOf bigEndian numberAt exceedLimits inForce shiftsInForce heldOf isOutOfOrder joined leftOf meets noRoom
+    rangeOf rangesAfter rangesOf rightOf taking.holding taking.taken receive.acceptable receive.isWindowRefused receive.lacksRoom
+    receive.newPart receive.opened receive.windowOpened isBroken padding paddingRule faultAt faultIn isRepeated isWrongLength lengthsOf
+    oneToFour optionIn optionsOf standsIn optionsRead reading segmentOf send.opened send.isNew send.acknowledged send.isCurrent send.isLater
+    send.updatesWindow send.windowed send.taken send.exceedsWindow send.sent isNotSyn isWrongAck opening openingFrom recordFrom recordWith
+    timestamps.opened timestamps.isOld timestamps.isMissing timestamps.outdated timestamps.valueBefore timestamps.isRecorded
+    timestamps.replacesRecent timestamps.taken rows fedBy recordAfter sampleOf arriving arrivingRead judged settled takenBy sent
+    windowOpened Option·elim
+cases = (refl, refl, refl, refl)
 
--- with a receive window of 0
-abbrev pub zeroWindow : Connection
-zeroWindow = connected (receiveSide 5000 0 5000 []) (sendSide 1001 1001 72 5000 1001) (recorded 50 100) newly
+pub base-opened : Opened base
+base-opened = record { own = own 65535; clock = 100; syn = unread (octets 4999 0 2 9 (stamps 50 0) 0); opens = cases .1 }
 
--- with seven ranges held, and with eight
-abbrev pub seven : List Range
-seven =
-    range 6700 6710 ∷ range 6600 6610 ∷ range 6500 6510 ∷ range 6400 6410 ∷ range 6300 6310 ∷ range 6200 6210 ∷ range 6100 6110 ∷ []
-
-abbrev pub full : Connection
-full = connected (receiveSide 5000 65535 5000 (seven ++ (range 6000 6010 ∷ []))) (sendSide 1001 1001 72 5000 1001) (recorded 50 100) newly
-
--- a whole answer
-abbrev pub answer : Decision → ℕ → ℕ → Bool → List Range → Connection → Arrival
-answer d from to hasFin blocks k = record { decision = d; part = record { from = from; to = to }; fin = hasFin; blocks = blocks; connection = k }
-
--- what is not taken has an empty part, no FIN and no blocks, and leaves the record
-abbrev pub left : Connection → ℕ → Answer → Arrival
-left k number what = answer (decision number what) 0 0 false [] k
-
-abbrev pub sampled : ℕ → ℕ → ℕ → Timer
-sampled srtt rttvar timeout = record { srtt = srtt; rttvar = rttvar; sampled = true; timeout = timeout }
-
--- octets sent up to 5,001
-abbrev pub unacknowledged : ℕ → ℕ → Timer → Connection
-unacknowledged una wl2 timer = connected (receiveSide 5000 65535 5000 []) (sendSide una 5001 72 5000 wl2) (recorded 50 100) timer
-
--- Last.ACK.sent behind RCV.NXT
-abbrev pub behind : Connection
-behind = connected (receiveSide 5000 65535 4900 []) (sendSide 1001 1001 72 5000 1001) (recorded 50 100) newly
-
--- the answer of a call that gives a number and the record
-abbrev pub answered : ℕ → Connection → record-of.Answer
-answered number k = record { number = number; connection = k }
+pub timed-feeds : timerCalls base timed ≡ rto.sample 57 ∷ []
+timed-feeds = cases .3

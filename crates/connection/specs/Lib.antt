@@ -8,4 +8,3 @@ pub mod Operations
 pub mod Calls
 pub mod Demand
 pub mod Cases
-pub mod Witnesses

@@ -1,4 +1,4 @@
--- Document 01's number and answer for each case of the enums.
+-- Document 01's number, and what is done, for each case of the enums.
 use Prim.Native.Nat.{ℕ}
 use Rattle.segment.specs.Reading.{numberOf}
 use Rattle.connection.specs.declared.ArriveOutcome.{ArriveOutcome}
@@ -29,20 +29,20 @@ reasonNumber Reason.AckMissing = 28
 reasonNumber Reason.AckUnsent = 29
 reasonNumber Reason.NoRoom = 30
 
--- the answers of document 01's table, and what E1 to E6 and E8 do
-pub data Answer : Type 0 where
-  take reset dropSilent dropWithAck refuse : Answer
+-- what document 01's table answers, and what E1 to E6 and E8 do
+pub data Action : Type 0 where
+  take reset dropSilent dropWithAck refuse : Action
 
--- a number with its answer
+-- a number with its action
 pub record Decision : Type 0 where
   pub number : ℕ
-  pub answer : Answer
+  pub action : Action
 
 abbrev pub verdictOf : Verdict → Decision
-verdictOf Verdict.Take = record { number = 0; answer = take }
-verdictOf Verdict.Reset = record { number = 25; answer = reset }
-verdictOf (Verdict.Silent why) = record { number = reasonNumber why; answer = dropSilent }
-verdictOf (Verdict.WithAck why) = record { number = reasonNumber why; answer = dropWithAck }
+verdictOf Verdict.Take = record { number = 0; action = take }
+verdictOf Verdict.Reset = record { number = 25; action = reset }
+verdictOf (Verdict.Silent why) = record { number = reasonNumber why; action = dropSilent }
+verdictOf (Verdict.WithAck why) = record { number = reasonNumber why; action = dropWithAck }
 
 abbrev pub arriveRefusalNumber : ArriveRefusal → ℕ
 arriveRefusalNumber (ArriveRefusal.Segment why) = numberOf why
@@ -50,4 +50,4 @@ arriveRefusalNumber ArriveRefusal.ClockBack = 8
 
 abbrev pub outcomeOf : ArriveOutcome → Decision
 outcomeOf (ArriveOutcome.Judged verdict) = verdictOf verdict
-outcomeOf (ArriveOutcome.Refused why) = record { number = arriveRefusalNumber why; answer = refuse }
+outcomeOf (ArriveOutcome.Refused why) = record { number = arriveRefusalNumber why; action = refuse }

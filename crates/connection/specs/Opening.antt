@@ -24,9 +24,9 @@ use Rattle.connection.specs.declared.Connection.{Connection}
 use Rattle.connection.specs.declared.OpenAnswer.{OpenAnswer}
 use Rattle.connection.specs.declared.Setup.{Setup}
 use Rattle.connection.specs.Numbers.{openNumber}
-use Rattle.connection.specs.Record.{Answer, blank}
+use Rattle.connection.specs.Record.{blank}
 
--- what a segment tells the send side, and what it tells the timestamps
+-- the fields of a segment that the send side takes, and those that the timestamps take
 abbrev pub ackFieldsOf : Segment → AckFields
 ackFieldsOf s = record { seq = s .seq; ack = s .ack; window = s .window }
 
@@ -73,25 +73,30 @@ recordWith force own clock syn = record {
 unfoldable pub recordFrom : Setup → ℕ → Segment → Connection
 recordFrom own clock syn = recordWith (inForce (own .offers) (peerOffers syn)) own clock syn
 
+-- the answer to an opening in document 01's terms: 0 or the refusal's number, and the record
+pub record OpeningAnswer : Type 0 where
+  pub number : ℕ
+  pub connection : Connection
+
 -- a refused opening answers its number beside the blank record
-abbrev pub refusedOpening : ℕ → Answer
+abbrev pub refusedOpening : ℕ → OpeningAnswer
 refusedOpening number = record { number = number; connection = blank }
 
-unfoldable pub openingFrom : Setup → ℕ → Segment → Answer
+unfoldable pub openingFrom : Setup → ℕ → Segment → OpeningAnswer
 openingFrom own clock syn =
     cond (isNotSyn syn) (refusedOpening 10)
     (cond (isWrongAck (own .iss .0) syn) (refusedOpening 11)
     (record { number = 0; connection = recordFrom own clock syn }))
 
 -- E9, E10, E11, of a segment that has been read
-unfoldable pub openingRead : Setup → ℕ → Segment → Answer
+unfoldable pub openingRead : Setup → ℕ → Segment → OpeningAnswer
 openingRead own clock syn = cond (exceedLimits (own .offers) (own .window)) (refusedOpening 9) (openingFrom own clock syn)
 
 -- E9, reading, E10, E11
-unfoldable pub opening : Setup → ℕ → List ℕ → Answer
+unfoldable pub opening : Setup → ℕ → List ℕ → OpeningAnswer
 opening own clock octets =
     cond (exceedLimits (own .offers) (own .window)) (refusedOpening 9)
     (Option·elim (reading octets .fields) (refusedOpening (reading octets .number)) (openingFrom own clock))
 
-abbrev pub shownOpen : OpenAnswer → Answer
+abbrev pub shownOpen : OpenAnswer → OpeningAnswer
 shownOpen a = record { number = openNumber (a .outcome); connection = a .connection }

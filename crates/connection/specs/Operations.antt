@@ -10,7 +10,12 @@ use Rattle.send.specs.declared.Send.{Send}
 use Rattle.connection.specs.declared.Connection.{Connection}
 use Rattle.connection.specs.declared.SentAnswer.{SentAnswer}
 use Rattle.connection.specs.declared.WindowAnswer.{WindowAnswer}
-use Rattle.connection.specs.Record.{Answer}
+
+-- the answer to octets noted as sent and to a new receive window, in document 01's terms: 0 or the refusal's number, and the record
+-- afterwards
+pub record CallAnswer : Type 0 where
+  pub number : ℕ
+  pub connection : Connection
 
 -- one part changed, and nothing else
 abbrev pub withReceive : Connection → Receive → Connection
@@ -44,23 +49,23 @@ withTimer k t = record {
 }
 
 -- noting n sent octets, or E12
-unfoldable pub sent : Connection → ℕ → Answer
+unfoldable pub sent : Connection → ℕ → CallAnswer
 sent k n = record { number = send.sent (k .send) n .number; connection = withSend k (send.sent (k .send) n .send) }
 
-abbrev pub shownSent : SentAnswer → Answer
+abbrev pub shownSent : SentAnswer → CallAnswer
 shownSent a = record { number = send.numberOf (a .outcome); connection = a .connection }
 
 -- opening the receive window, or E13
-unfoldable pub windowOpened : Connection → ℕ → Answer
+unfoldable pub windowOpened : Connection → ℕ → CallAnswer
 windowOpened k window = record {
   number = receive.windowOpened (k .receive) window .number;
   connection = withReceive k (receive.windowOpened (k .receive) window .receive);
 }
 
-abbrev pub shownWindow : WindowAnswer → Answer
+abbrev pub shownWindow : WindowAnswer → CallAnswer
 shownWindow a = record { number = receive.numberOf (a .outcome); connection = a .connection }
 
--- expiry told to a record changes only its timer
+-- an expiry changes only the timer
 unfoldable pub expired : Connection → Connection
 expired k = withTimer k (rto.expired (k .timer))
 

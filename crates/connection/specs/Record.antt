@@ -1,6 +1,5 @@
 -- The blank record, which a refused opening gives back, and what holds of every record that the operations give back.
 use mathlib.Core.Bool.{false}
-use Prim.Native.Nat.{ℕ}
 use Rattle.serial.specs.declared.Seq.{Seq}
 use Rattle.receive.specs.Sound as receive
 use Rattle.receive.specs.Window.{opened}
@@ -25,8 +24,3 @@ pub record Sound (k : Connection) : Type 0 where
   pub receive-sound : receive.Sound (k .receive)
   pub send-sound : send.Sound (k .send)
   pub timer-sound : rto.Sound (k .timer)
-
--- an answer in document 01's terms: 0 or the refusal's number, and the record afterwards
-pub record Answer : Type 0 where
-  pub number : ℕ
-  pub connection : Connection

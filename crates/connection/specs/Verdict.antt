@@ -8,7 +8,7 @@ use Rattle.segment.specs.declared.Segment.{Segment}
 use Rattle.send.specs.Send.{isUnsent}
 use Rattle.timestamps.specs.Timestamps.{isMissing, isOld}
 use Rattle.connection.specs.declared.Connection.{Connection}
-use Rattle.connection.specs.Numbers.{Answer, Decision, dropSilent, dropWithAck, reset, take}
+use Rattle.connection.specs.Numbers.{Action, Decision, dropSilent, dropWithAck, reset, take}
 use Rattle.connection.specs.Opening.{tsvalOf}
 
 -- the rows of timestamps look at TSval and RST
@@ -25,10 +25,10 @@ isAcceptable k s = acceptable (k .receive) (s .seq .0) (s .len)
 pub record Row : Type 0 where
   pub number : ℕ
   pub holds : Bool
-  pub answer : Answer
+  pub action : Action
 
-abbrev pub row : ℕ → Bool → Answer → Row
-row number holds answer = record { number = number; holds = holds; answer = answer }
+abbrev pub row : ℕ → Bool → Action → Row
+row number holds action = record { number = number; holds = holds; action = action }
 
 unfoldable pub rows : Connection → ℕ → Segment → List Row
 rows k clock s =
@@ -46,8 +46,8 @@ rows k clock s =
 
 -- the first row whose condition holds decides; otherwise take
 abbrev pub decided : List Row → Decision
-decided [] = record { number = 0; answer = take }
-decided (r ∷ rs) = cond (r .holds) (record { number = r .number; answer = r .answer }) (decided rs)
+decided [] = record { number = 0; action = take }
+decided (r ∷ rs) = cond (r .holds) (record { number = r .number; action = r .action }) (decided rs)
 
 -- Whether number n is to be given: row n's condition holds and no earlier one does. Number 0 is given where no condition holds.
 abbrev pub noneHolds : List Row → Bool

@@ -117,7 +117,7 @@ pub struct Arrival {
     pub connection: Connection,
 }
 
-// The answer to octets noted as sent, and to a new receive window: where it is refused, the connection is the one handed in.
+// The answer to octets noted as sent, and to a new receive window: where it is refused, the connection is the one before the call.
 pub struct SentAnswer {
     pub outcome: SentOutcome,
     pub connection: Connection,
@@ -351,7 +351,7 @@ impl Connection {
 }
 
 fn is_take(verdict: Verdict) -> bool
-    ensures { λ r. ⌜ r ≡ isTake (verdictOf verdict .answer) ⌝ }
+    ensures { λ r. ⌜ r ≡ isTake (verdictOf verdict .action) ⌝ }
 {
     match verdict {
         Verdict::Take => true,

@@ -12,7 +12,7 @@ use send::AckFields;
 use timestamps::Timestamping;
 use timestamps::Tsval;
 
-// What a segment tells the send side.
+// The fields of a segment that the send side takes.
 pub fn ack_fields_of(s: Segment) -> AckFields
     ensures { λ r. ⌜ r ≡ ackFieldsOf s ⌝ }
 {
@@ -22,7 +22,7 @@ pub fn ack_fields_of(s: Segment) -> AckFields
     AckFields { seq, ack, window }
 }
 
-// What a segment tells the timestamps.
+// The TSval that the timestamps take from a segment.
 pub fn tsval_of(timestamps: Timestamps) -> Tsval
     ensures { λ r. ⌜ r ≡ tsvalOf timestamps ⌝ }
 {

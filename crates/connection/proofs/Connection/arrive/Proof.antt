@@ -1,11 +1,11 @@
 -- The two ways out are the cases of `arriving`, and what it gives back is sound.
 -- Assumes nothing.
 use mathlib.Core.Option.{Option·elim}
-use mathlib.Core.Path.{_≡_, sym, ap, _∙_}
+use mathlib.Core.Path.{_≡_, sym, ap, subst, _∙_}
 use denote.Ref.{now}
 use Rattle.segment.specs.Reading as segment
 use Rattle.connection.specs.Arriving.{arriving, shown}
-use Rattle.connection.proofs.Keeping.{arriving-sound, as-arrived}
+use Rattle.connection.proofs.Keeping.{SoundArrival, arriving-sound}
 use borrow.Author.Needs.{needs}
 use Rattle.connection.proofs.Connection.arrive.Statement.{statement}
 use Rattle.connection.proofs.Connection.arrive.Tie as tie
@@ -31,7 +31,7 @@ returns c =
     let a = c .before .before .before .before .before .before .args in
     let read = sym (c .before .before .before .before .read .ensures) ∙ ap segment.shown (c .before .before .reading .given .1) in
     let is : shown (c .unchanged .result) ≡ arriving (a .self) (a .clock) (now (a .segment)) = rw read (c .unchanged .ensures) in
-    (is, as-arrived _ _ is (arriving-sound (a .self) (c .before .before .before .before .before .before .pre) (a .clock) (now (a .segment))))
+    (is, subst SoundArrival (sym is) (arriving-sound (a .self) (c .before .before .before .before .before .before .pre) (a .clock) (now (a .segment))))
 
 returns-2 : tie.Need-returns-2
 unfolding arriving Option·elim
@@ -39,7 +39,7 @@ returns-2 c =
     let a = c .before .before .before .before .before .before .args in
     let read = sym (c .before .before .before .before .read .ensures) ∙ ap segment.shown (c .before .before .reading2 .given .1) in
     let is : shown (c .arrive-read .result) ≡ arriving (a .self) (a .clock) (now (a .segment)) = rw read (c .arrive-read .ensures .0) in
-    (is, as-arrived _ _ is (arriving-sound (a .self) (c .before .before .before .before .before .before .pre) (a .clock) (now (a .segment))))
+    (is, subst SoundArrival (sym is) (arriving-sound (a .self) (c .before .before .before .before .before .before .pre) (a .clock) (now (a .segment))))
 
 pub arrive-spec : {M : Type 1} → statement M
 arrive-spec =

@@ -1,11 +1,11 @@
 -- The three ways out are the cases of `opening`, and what it gives back is sound.
 -- Assumes nothing.
 use mathlib.Core.Option.{Option·elim}
-use mathlib.Core.Path.{_≡_, sym, ap, _∙_}
+use mathlib.Core.Path.{_≡_, sym, ap, subst, _∙_}
 use denote.Ref.{now}
 use Rattle.segment.specs.Reading.{shown}
 use Rattle.connection.specs.Opening.{opening, shownOpen}
-use Rattle.connection.proofs.Keeping.{as-answered, opening-sound}
+use Rattle.connection.proofs.Keeping.{SoundOpening, opening-sound}
 use borrow.Author.Needs.{needs}
 use Rattle.connection.proofs.Connection.open.Statement.{statement}
 use Rattle.connection.proofs.Connection.open.Tie as tie
@@ -22,7 +22,7 @@ returns c =
     let a = c .before .before .before .before .before .args in
     let is : shownOpen (c .refused .result) ≡ opening (a .own) (a .clock) (now (a .syn)) =
     rw (sym (c .before .before .exceed-limits .ensures) ∙ c .before .if1 .taken) (c .refused .ensures) in
-    (is, as-answered _ _ is (opening-sound (a .own) (a .clock) (now (a .syn))))
+    (is, subst SoundOpening (sym is) (opening-sound (a .own) (a .clock) (now (a .syn))))
 
 read-requires : tie.Need-read-requires
 read-requires c κs = search needs
@@ -46,7 +46,7 @@ returns-2 c =
     let kept = sym (c .before .before .before .before .before .before .exceed-limits .ensures) ∙ c .before .before .before .before .before .if1 .left in
     let read = sym (c .before .before .before .before .read .ensures) ∙ ap shown (c .before .before .reading .given .1) in
     let is : shownOpen (c .refused2 .result) ≡ opening (a .own) (a .clock) (now (a .syn)) = rw (kept, read) (c .refused2 .ensures) in
-    (is, as-answered _ _ is (opening-sound (a .own) (a .clock) (now (a .syn))))
+    (is, subst SoundOpening (sym is) (opening-sound (a .own) (a .clock) (now (a .syn))))
 
 returns-3 : tie.Need-returns-3
 unfolding opening Option·elim
@@ -55,7 +55,7 @@ returns-3 c =
     let kept = sym (c .before .before .before .before .before .before .exceed-limits .ensures) ∙ c .before .before .before .before .before .if1 .left in
     let read = sym (c .before .before .before .before .read .ensures) ∙ ap shown (c .before .before .reading2 .given .1) in
     let is : shownOpen (c .open-from .result) ≡ opening (a .own) (a .clock) (now (a .syn)) = rw (kept, read) (c .open-from .ensures) in
-    (is, as-answered _ _ is (opening-sound (a .own) (a .clock) (now (a .syn))))
+    (is, subst SoundOpening (sym is) (opening-sound (a .own) (a .clock) (now (a .syn))))
 
 pub open-spec : {M : Type 1} → statement M
 open-spec =

@@ -1,8 +1,8 @@
 -- The two ways out are the cases of `openingRead`, and what it gives back is sound.
 -- Assumes nothing.
-use mathlib.Core.Path.{_≡_, sym, _∙_}
+use mathlib.Core.Path.{_≡_, sym, subst, _∙_}
 use Rattle.connection.specs.Opening.{openingRead, shownOpen}
-use Rattle.connection.proofs.Keeping.{as-answered, opening-read-sound}
+use Rattle.connection.proofs.Keeping.{SoundOpening, opening-read-sound}
 use borrow.Author.Needs.{needs}
 use Rattle.connection.proofs.Connection.open_read.Statement.{statement}
 use Rattle.connection.proofs.Connection.open_read.Tie as tie
@@ -19,7 +19,7 @@ returns c =
     let a = c .before .before .before .before .args in
     let is : shownOpen (c .refused .result) ≡ openingRead (a .own) (a .clock) (a .syn) =
     rw (sym (c .before .before .exceed-limits .ensures) ∙ c .before .if1 .taken) (c .refused .ensures) in
-    (is, as-answered _ _ is (opening-read-sound (a .own) (a .clock) (a .syn)))
+    (is, subst SoundOpening (sym is) (opening-read-sound (a .own) (a .clock) (a .syn)))
 
 open-from-requires : tie.Need-open-from-requires
 open-from-requires c κs = search needs
@@ -30,7 +30,7 @@ returns-2 c =
     let a = c .before .before .before .before .args in
     let is : shownOpen (c .open-from .result) ≡ openingRead (a .own) (a .clock) (a .syn) =
     rw (sym (c .before .before .exceed-limits .ensures) ∙ c .before .if1 .left) (c .open-from .ensures) in
-    (is, as-answered _ _ is (opening-read-sound (a .own) (a .clock) (a .syn)))
+    (is, subst SoundOpening (sym is) (opening-read-sound (a .own) (a .clock) (a .syn)))
 
 pub open-read-spec : {M : Type 1} → statement M
 open-read-spec = tie.close (tie.spec exceed-limits-requires refused-requires returns open-from-requires returns-2)

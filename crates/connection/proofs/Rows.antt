@@ -1,0 +1,126 @@
+-- The rows of the table as document 01 lists them: numbers and answers in its order, and each condition by its number. Assumes nothing.
+use mathlib.Core.Bool.{Bool, true, false, not, _&&_, and-false}
+use mathlib.Core.List.{List, [], _∷_, map}
+use mathlib.Core.Logic.{_↔_, Iff·rfl}
+use mathlib.Core.Path.{_≡_, refl}
+use Prim.Native.Nat.{ℕ, _<_}
+use lib.Dec.{eqb, ltb}
+use lib.ListN.{length}
+use borrow.Author.Tests.{eq-eqb, eqb-true, lt-ltb, ltb-true, not-true}
+use Rattle.laws.specs.Lists.{any}
+use Rattle.laws.proofs.Choices.{both-true}
+use Rattle.serial.specs.Serial.{isBefore}
+use Rattle.serial.specs.declared.Range.{Range}
+use Rattle.serial.specs.declared.Stamp.{Stamp}
+use Rattle.receive.specs.Ranges.{isOutOfOrder, meets, noRoom, rangesOf}
+use Rattle.receive.specs.Window.{acceptable, lacksRoom, newPart}
+use Rattle.receive.specs.declared.Part.{Part}
+use Rattle.segment.specs.declared.Segment.{Segment}
+use Rattle.segment.specs.declared.Timestamps.{Timestamps}
+use Rattle.timestamps.specs.Timestamps.{isMissing, isOld, outdated, valueBefore}
+use Rattle.connection.specs.declared.Connection.{Connection}
+use Rattle.connection.specs.Numbers.{Action, dropSilent, dropWithAck, reset}
+use Rattle.connection.specs.Verdict.{Row, rows}
+use Rattle.connection.proofs.Table.{condition}
+
+-- what a test made of others says
+both : {A B : Type 0} (a b : Bool) → ((a ≡ true) ↔ A) → ((b ≡ true) ↔ B) → (a && b ≡ true) ↔ (A × B)
+both a b is-a is-b = (λ t. (is-a .0 (both-true a b t .0), is-b .0 (both-true a b t .1)), λ h. rw (is-a .1 (h .0)) (is-b .1 (h .1)))
+
+holds-not : (b : Bool) → (not b ≡ true) ↔ (b ≡ false)
+holds-not b = (not-true b, λ f. rw f)
+
+equal : (a b : ℕ) → (eqb a b ≡ true) ↔ (a ≡ b)
+equal a b = (eqb-true a b, eq-eqb a b)
+
+below : (a b : ℕ) → (ltb a b ≡ true) ↔ (a < b)
+below a b = (ltb-true a b, lt-ltb a b)
+
+module _ (k : Connection) (clock : ℕ) (s : Segment) where
+  abbrev Holds : ℕ → Type 0
+  Holds n = condition n (rows k clock s) ≡ true
+
+  abbrev isAcceptable : Bool
+  isAcceptable = acceptable (k .receive) (s .seq .0) (s .len)
+
+  pub as-listed : map {B = ℕ × Action} (λ (r : Row). (r .number, r .action)) (rows k clock s)
+      ≡ (21, dropSilent) ∷ (22, dropWithAck) ∷ (23, dropSilent) ∷ (24, dropWithAck) ∷ (25, reset) ∷ (26, dropWithAck) ∷ (27, dropWithAck)
+      ∷ (28, dropSilent) ∷ (29, dropWithAck) ∷ (30, dropWithAck) ∷ []
+  unfolding rows
+  as-listed = refl
+
+  -- 21: timestamps in force, none here, no RST
+  pub row-21 : s .options .timestamps ≡ Timestamps.Absent → Holds 21 ↔ ((k .timestamping .active ≡ true) × (s .flags .rst ≡ false))
+  unfolding rows isMissing
+  row-21 none-here = rw none-here (both (k .timestamping .active) (not (s .flags .rst)) Iff·rfl (holds-not (s .flags .rst)))
+
+  module _ (value echoed : Stamp) (here : s .options .timestamps ≡ Timestamps.Pair value echoed) where
+    pub row-21-not : condition 21 (rows k clock s) ≡ false
+    unfolding rows isMissing
+    row-21-not = rw here (and-false (k .timestamping .active))
+
+    -- 22: timestamps in force, no RST, TSval before TS.Recent, TS.Recent not outdated
+    pub row-22 : Holds 22
+        ↔ ((k .timestamping .active ≡ true)
+        × ((s .flags .rst ≡ false) × ((isBefore (value .0) (k .timestamping .recent .0) ≡ true) × (outdated (k .timestamping) clock ≡ false))))
+    unfolding rows isOld valueBefore
+    row-22 =
+        rw here
+        (both (k .timestamping .active) _ Iff·rfl
+        (both (not (s .flags .rst)) _ (holds-not (s .flags .rst))
+        (both (isBefore (value .0) (k .timestamping .recent .0)) _ Iff·rfl (holds-not (outdated (k .timestamping) clock)))))
+
+  pub row-22-not : s .options .timestamps ≡ Timestamps.Absent → condition 22 (rows k clock s) ≡ false
+  unfolding rows isOld valueBefore
+  row-22-not none-here = rw (none-here, and-false (not (s .flags .rst))) (and-false (k .timestamping .active))
+
+  -- 23: not acceptable, RST
+  pub row-23 : Holds 23 ↔ ((isAcceptable ≡ false) × (s .flags .rst ≡ true))
+  unfolding rows
+  row-23 = both (not isAcceptable) (s .flags .rst) (holds-not isAcceptable) Iff·rfl
+
+  -- 24: not acceptable, no RST
+  pub row-24 : Holds 24 ↔ ((isAcceptable ≡ false) × (s .flags .rst ≡ false))
+  unfolding rows
+  row-24 = both (not isAcceptable) (not (s .flags .rst)) (holds-not isAcceptable) (holds-not (s .flags .rst))
+
+  -- 25: RST, SEQ = RCV.NXT
+  pub row-25 : Holds 25 ↔ ((s .flags .rst ≡ true) × (s .seq .0 ≡ k .receive .nxt .0))
+  unfolding rows
+  row-25 = both (s .flags .rst) (eqb (s .seq .0) (k .receive .nxt .0)) Iff·rfl (equal (s .seq .0) (k .receive .nxt .0))
+
+  -- 26: other RST
+  pub row-26 : Holds 26 ↔ (s .flags .rst ≡ true)
+  unfolding rows
+  row-26 = Iff·rfl
+
+  -- 27: SYN
+  pub row-27 : Holds 27 ↔ (s .flags .syn ≡ true)
+  unfolding rows
+  row-27 = Iff·rfl
+
+  -- 28: no ACK flag
+  pub row-28 : Holds 28 ↔ (s .flags .ack ≡ false)
+  unfolding rows
+  row-28 = holds-not (s .flags .ack)
+
+  -- 29: SND.NXT before ACK
+  pub row-29 : Holds 29 ↔ (isBefore (k .send .nxt .0) (s .ack .0) ≡ true)
+  unfolding rows
+  row-29 = Iff·rfl
+
+  -- 30: eight are held, the part is not empty, does not start at 0, and neither overlaps nor touches any
+  abbrev part : Part
+  part = newPart (k .receive) (s .seq .0) (s .len)
+
+  abbrev held : List Range
+  held = rangesOf (k .receive .held)
+
+  pub row-30 : Holds 30
+      ↔ ((length held ≡ 8) × (((0 < part .from) × (part .from < part .to)) × (any (meets (k .receive .nxt .0) part) held ≡ false)))
+  unfolding rows lacksRoom noRoom isOutOfOrder
+  row-30 =
+      both (eqb (length held) 8) _ (equal (length held) 8)
+      (both (ltb 0 (part .from) && ltb (part .from) (part .to)) _
+      (both (ltb 0 (part .from)) (ltb (part .from) (part .to)) (below 0 (part .from)) (below (part .from) (part .to)))
+      (holds-not (any (meets (k .receive .nxt .0) part) held)))

@@ -1,0 +1,120 @@
+-- What a take gives, part by part, and when it feeds a sample to the timer (document 01, "What taking does"), of octets and of fields read
+-- before. Assumes nothing.
+use mathlib.Core.Bool.{Bool, true, false, cond, _&&_, and-false, false≢true}
+use mathlib.Core.List.{List, [], _∷_}
+use mathlib.Core.Logic.{_⊎_, inl, inr}
+use mathlib.Core.Option.{some}
+use mathlib.Core.Path.{_≡_, refl, sym, ap, subst, _∙_}
+use Prim.Native.Nat.{ℕ}
+use Rattle.laws.specs.Lists.{filter}
+use Rattle.laws.proofs.Choices.{either}
+use Rattle.serial.specs.Serial.{roundTrip, stampAt}
+use Rattle.serial.specs.declared.Stamp.{Stamp}
+use Rattle.receive.specs.Taking as receive
+use Rattle.receive.specs.Window.{finInside, newPart}
+use Rattle.rto.specs.Calls as rto
+use Rattle.segment.specs.Options.{blockList}
+use Rattle.segment.specs.declared.Segment.{Segment}
+use Rattle.segment.specs.declared.Timestamps.{Timestamps}
+use Rattle.send.specs.Send as send
+use Rattle.timestamps.specs.Timestamps as timestamps
+use Rattle.connection.specs.declared.Connection.{Connection}
+use Rattle.connection.specs.Numbers.{take}
+use Rattle.connection.specs.Opening.{tsvalOf}
+use Rattle.connection.specs.Taking.{fedBy, listed, recordAfter, sampleOf}
+use Rattle.connection.specs.Arriving.{Arrival, arrivingRead, isTake, takenBy}
+use Rattle.connection.specs.Calls.{Incoming, arrived, fieldsOf, read, unread}
+use Rattle.connection.proofs.Incoming.{arrived-by-fields}
+use Rattle.connection.proofs.OnlyTake.{only-take, only-take-read}
+use Rattle.connection.proofs.Table.{arriving-cases}
+
+-- each part of the record as its own rules have it; Last.ACK.sent is its value before the segment, and the peer's SACK blocks are judged by
+-- the values after the take
+pub record Takes (k : Connection) (clock : ℕ) (s : Segment) (a : Arrival) : Type 0 where
+  pub decision-is : a .decision ≡ record { number = 0; action = take }
+  pub part-is : a .part ≡ newPart (k .receive) (s .seq .0) (s .len)
+  pub fin-is : a .fin ≡ finInside (k .receive) (s .seq .0) (s .len) (s .flags .fin)
+  pub blocks-are : a .blocks ≡ cond (k .sack) (filter (send.isListed (a .connection .send)) (blockList (s .options .blocks))) []
+  pub receive-is : a .connection .receive ≡ receive.taken (k .receive) (a .part)
+  pub send-is : a .connection .send ≡ send.taken (k .send) (record { seq = s .seq; ack = s .ack; window = s .window })
+  pub timestamping-is : a .connection .timestamping
+      ≡ timestamps.taken (k .timestamping) clock (k .receive .acked .0) (s .seq .0) (tsvalOf (s .options .timestamps))
+  pub sack-stays : a .connection .sack ≡ k .sack
+  pub mss-stays : a .connection .mss ≡ k .mss
+
+-- what a take feeds to the timer: the sample R = (our timestamp - TSecr) mod 2^32, or nothing
+module _ (k : Connection) (clock : ℕ) (s : Segment) where
+  abbrev by : Bool → Bool → Timestamps → List rto.Call
+  by active new stamps = cond (active && new) (sampleOf (k .timestamping) clock stamps) []
+
+  feeds-one : (value echoed : Stamp) → k .timestamping .active ≡ true → s .options .timestamps ≡ Timestamps.Pair value echoed
+      → send.isNew (k .send) (s .ack .0) ≡ true
+      → fedBy k clock s ≡ rto.sample (roundTrip (stampAt clock (k .timestamping .offset)) (echoed .0)) ∷ []
+  unfolding fedBy sampleOf
+  feeds-one value echoed active stamps new =
+      ap (λ b. by b (send.isNew (k .send) (s .ack .0)) (s .options .timestamps)) active
+      ∙ (ap (λ b. by true b (s .options .timestamps)) new ∙ ap (by true true) stamps)
+
+  feeds-none : (k .timestamping .active ≡ false) ⊎ ((s .options .timestamps ≡ Timestamps.Absent) ⊎ (send.isNew (k .send) (s .ack .0) ≡ false))
+      → fedBy k clock s ≡ []
+  unfolding fedBy sampleOf
+  feeds-none (inl off) = ap (λ b. by b (send.isNew (k .send) (s .ack .0)) (s .options .timestamps)) off
+  feeds-none (inr (inl none-here)) =
+      ap (by (k .timestamping .active) (send.isNew (k .send) (s .ack .0))) none-here
+      ∙ either (λ (l : List rto.Call). l ≡ []) (k .timestamping .active && send.isNew (k .send) (s .ack .0)) [] [] (λ _. refl) (λ _. refl)
+  feeds-none (inr (inr old)) =
+      ap (λ b. by (k .timestamping .active) b (s .options .timestamps)) old
+      ∙ ap (λ b. cond b (sampleOf (k .timestamping) clock (s .options .timestamps)) []) (and-false (k .timestamping .active))
+
+module _ (k : Connection) (clock : ℕ) (i : Incoming) (s : Segment) (is : fieldsOf i ≡ some s)
+    (takes : isTake (arrived k clock i .decision .action) ≡ true) where
+  taken-as : arrived k clock i ≡ takenBy k clock s
+  taken-as =
+      by ∙ arriving-cases k clock s Taken (λ _ t. refl) (λ d drops t. absurd (false≢true (sym drops ∙ t)))
+      (sym (ap (λ (a : Arrival). isTake (a .decision .action)) by) ∙ takes)
+    where
+      by : arrived k clock i ≡ arrivingRead k clock s
+      by = arrived-by-fields k clock i s is
+
+      Taken : Arrival → Type 0
+      Taken a = isTake (a .decision .action) ≡ true → a ≡ takenBy k clock s
+
+  pub take-gives : Takes k clock s (arrived k clock i)
+  unfolding takenBy recordAfter listed
+  take-gives =
+      let gives : Takes k clock s (takenBy k clock s) =
+      record {
+        decision-is = refl;
+        part-is = refl;
+        fin-is = refl;
+        blocks-are = refl;
+        receive-is = refl;
+        send-is = refl;
+        timestamping-is = refl;
+        sack-stays = refl;
+        mss-stays = refl;
+      } in
+      subst (Takes k clock s) (sym taken-as) gives
+
+  timer-after : arrived k clock i .connection .timer ≡ rto.run (k .timer) (fedBy k clock s)
+  unfolding takenBy recordAfter
+  timer-after = ap (λ (a : Arrival). a .connection .timer) taken-as
+
+  -- a new ACK with timestamps in force gives a sample R = (our timestamp - TSecr) mod 2^32, which is fed to the timer
+  pub sample-fed : (value echoed : Stamp) → k .timestamping .active ≡ true → s .options .timestamps ≡ Timestamps.Pair value echoed
+      → send.isNew (k .send) (s .ack .0) ≡ true
+      → arrived k clock i .connection .timer
+      ≡ rto.called (k .timer) (rto.sample (roundTrip (stampAt clock (k .timestamping .offset)) (echoed .0)))
+  sample-fed value echoed active stamps new = timer-after ∙ ap (rto.run (k .timer)) (feeds-one k clock s value echoed active stamps new)
+
+  -- where one of the three is missing the timer stays
+  pub sample-not-fed :
+      (k .timestamping .active ≡ false) ⊎ ((s .options .timestamps ≡ Timestamps.Absent) ⊎ (send.isNew (k .send) (s .ack .0) ≡ false))
+      → arrived k clock i .connection .timer ≡ k .timer
+  sample-not-fed missing = timer-after ∙ ap (rto.run (k .timer)) (feeds-none k clock s missing)
+
+-- a segment that is not taken leaves the whole record, so its timer too
+pub not-taken-stays : (k : Connection) (clock : ℕ) (i : Incoming) → isTake (arrived k clock i .decision .action) ≡ false
+    → arrived k clock i .connection ≡ k
+not-taken-stays k clock (unread octets) drops = ap (λ (a : Arrival). a .connection) (only-take k clock octets drops)
+not-taken-stays k clock (read s) drops = ap (λ (a : Arrival). a .connection) (only-take-read k clock s drops)
