@@ -7,7 +7,6 @@ use native.Mathlib.Omega.{arith}
 use lib.Dec.{ltb}
 use Rattle.serial.specs.Serial.{movedBy}
 use Rattle.offers.specs.Offers.{exceedLimits}
-use Rattle.offers.proofs.Limits.{shifts-most, window-most}
 use Rattle.receive.proofs.Opening as opening-side
 use Rattle.receive.proofs.Taken as receive-side
 use Rattle.rto.specs.Calls.{expiry}
@@ -19,7 +18,7 @@ use Rattle.connection.specs.declared.Connection.{Connection}
 use Rattle.connection.specs.declared.Setup.{Setup}
 use Rattle.connection.specs.Numbers.{Decision}
 use Rattle.connection.specs.Record.{Sound, blank}
-use Rattle.connection.specs.Opening.{OpeningAnswer, isNotSyn, isWrongAck, opening, openingFrom, openingRead, peerOffers, recordFrom, recordWith, refusedOpening, ackFieldsOf}
+use Rattle.connection.specs.Opening.{OpeningAnswer, isNotSyn, isWrongAck, opening, openingFrom, openingRead, recordFrom, recordWith, refusedOpening, ackFieldsOf}
 use Rattle.connection.specs.Verdict.{decided, rows}
 use Rattle.connection.specs.Taking.{fedBy, recordAfter}
 use Rattle.connection.specs.Arriving.{Arrival, arriving, arrivingRead, isTake, judged, settled, takenBy}
@@ -30,46 +29,41 @@ use Rattle.laws.proofs.Choices.{either, if-some}
 pub blank-sound : Sound blank
 unfolding blank
 blank-sound = record {
-  receive-sound = opening-side.opened-sound 0 0 0 (omega arith) (omega arith) (omega arith);
+  receive-sound = opening-side.opened-sound 0 0 0 (omega arith);
   send-sound = record { shift-most = omega arith };
   timer-sound = sound-new;
 }
 
-record-sound : (own : Setup) (clock : ℕ) (syn : Segment) → exceedLimits (own .offers) (own .window) ≡ false → Sound (recordFrom own clock syn)
-unfolding recordFrom recordWith
-record-sound own clock syn kept =
-    let shifts = shifts-most (own .offers) (peerOffers syn) (own .window) kept in
-    record {
-      receive-sound =
-          opening-side.opened-sound (movedBy (syn .seq .0) 1) (own .window) _ (omega arith) (shifts .0)
-          (window-most (own .offers) (own .window) kept);
-      send-sound = send-side.opened-sound (own .iss .0) _ (ackFieldsOf syn) (syn .flags .ack) (shifts .1);
-      timer-sound = sound-new;
-    }
-
 abbrev pub SoundOpening : OpeningAnswer → Type 0
 SoundOpening a = Sound (a .connection)
 
--- past E9
-module _ (own : Setup) (clock : ℕ) (kept : exceedLimits (own .offers) (own .window) ≡ false) where
+module _ (own : Setup) (clock : ℕ) where
+  record-sound : (syn : Segment) → Sound (recordFrom own clock syn)
+  unfolding recordFrom recordWith
+  record-sound syn = record {
+    receive-sound = opening-side.opened-sound (movedBy (syn .seq .0) 1) (own .window) _ (omega arith);
+    send-sound = send-side.opened-sound (own .iss .0) _ (ackFieldsOf syn) (syn .flags .ack);
+    timer-sound = sound-new;
+  }
+
   opening-from-sound : (syn : Segment) → Sound (openingFrom own clock syn .connection)
   unfolding openingFrom
   opening-from-sound syn =
       either SoundOpening (isNotSyn syn) (refusedOpening 10) _ (λ _. blank-sound)
+      (λ _. either SoundOpening (isWrongAck (own .iss .0) syn) (refusedOpening 11) _ (λ _. blank-sound) (λ _. record-sound syn))
+
+  pub opening-read-sound : (syn : Segment) → Sound (openingRead own clock syn .connection)
+  unfolding openingRead
+  opening-read-sound syn =
+      either SoundOpening (exceedLimits (own .offers) (own .window)) (refusedOpening 9) _ (λ _. blank-sound) (λ _. opening-from-sound syn)
+
+  pub opening-sound : (octets : List ℕ) → Sound (opening own clock octets .connection)
+  unfolding opening
+  opening-sound octets =
+      either SoundOpening (exceedLimits (own .offers) (own .window)) (refusedOpening 9) _ (λ _. blank-sound)
       (λ _.
-      either SoundOpening (isWrongAck (own .iss .0) syn) (refusedOpening 11) _ (λ _. blank-sound) (λ _. record-sound own clock syn kept))
-
-pub opening-read-sound : (own : Setup) (clock : ℕ) (syn : Segment) → Sound (openingRead own clock syn .connection)
-unfolding openingRead
-opening-read-sound own clock syn = either SoundOpening _ (refusedOpening 9) _ (λ _. blank-sound) (λ kept. opening-from-sound own clock kept syn)
-
-pub opening-sound : (own : Setup) (clock : ℕ) (octets : List ℕ) → Sound (opening own clock octets .connection)
-unfolding opening
-opening-sound own clock octets =
-    either SoundOpening (exceedLimits (own .offers) (own .window)) (refusedOpening 9) _ (λ _. blank-sound)
-    (λ kept.
-    if-some SoundOpening (reading octets .fields) (refusedOpening (reading octets .number)) (openingFrom own clock) blank-sound
-    (opening-from-sound own clock kept))
+      if-some SoundOpening (reading octets .fields) (refusedOpening (reading octets .number)) (openingFrom own clock) blank-sound
+      opening-from-sound)
 
 abbrev pub SoundArrival : Arrival → Type 0
 SoundArrival a = Sound (a .connection)

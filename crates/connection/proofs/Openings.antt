@@ -7,8 +7,7 @@ use mathlib.Core.Option.{Option, none, some, Option·elim}
 use mathlib.Core.Path.{_≡_, refl, sym, ap, subst, _∙_}
 use Prim.Native.Nat.{ℕ, _+_, _%_, _^_, _<_}
 use native.Mathlib.Omega.{arith}
-use lib.Dec.{eqb}
-use borrow.Author.Tests.{eq-eqb, eqb-false, eqb-true, ne-eqb, not-false}
+use borrow.Author.Tests.{eq-eqb, ne-eqb, not-false}
 use Rattle.laws.proofs.Choices.{either, neither}
 use Rattle.serial.specs.declared.Stamp.{Stamp}
 use Rattle.offers.specs.Offers.{exceedLimits, inForce}
@@ -17,14 +16,13 @@ use Rattle.offers.specs.declared.Scale.{Scale}
 use Rattle.offers.proofs.Limits.{shifts-most, window-most}
 use Rattle.receive.specs.Ranges.{heldOf, rangesOf}
 use Rattle.receive.specs.Window as receive
-use Rattle.segment.specs.Reading as reader
-use Rattle.segment.specs.Reading.{readAs, reading}
+use Rattle.segment.specs.Reading.{reading}
 use Rattle.segment.specs.declared.Mss.{Mss}
 use Rattle.segment.specs.declared.Segment.{Segment}
 use Rattle.segment.specs.declared.Timestamps.{Timestamps}
 use Rattle.segment.specs.declared.WindowScale.{WindowScale}
 use Rattle.segment.proofs.Readable.{readable}
-use Rattle.segment.proofs.Refused.{reading-alone}
+use Rattle.segment.proofs.Refused.{read-whole}
 use Rattle.send.specs.Send as send
 use Rattle.timestamps.specs.Timestamps as timestamps
 use Rattle.connection.specs.declared.Connection.{Connection}
@@ -113,21 +111,6 @@ opening-gives own clock syn =
   where
     Given : OpeningAnswer → Type 0
     Given a = a .number ≡ 0 → Gives own clock syn a
-
--- what reads has the number 0
-read-whole : (octets : List ℕ) (s : Segment) → reading octets .fields ≡ some s → reading octets ≡ readAs s
-unfolding Option·elim
-read-whole octets s is = pick (eqb (reading octets .number) 0) refl
-  where
-    filled : Option Segment → ℕ
-    filled o = Option·elim o 0 (λ x. 1)
-
-    pick : (b : Bool) → eqb (reading octets .number) 0 ≡ b → reading octets ≡ readAs s
-    pick true zero = λ i. record { number = eqb-true (reading octets .number) 0 zero i; fields = is i }
-    pick false some-number =
-        let refuses = reading-alone octets .alone (eqb-false (reading octets .number) 0 some-number) in
-        let differ : _≡_ {A = ℕ} 0 1 = ap filled (sym (ap (λ (a : reader.Answer Segment). a .fields) refuses) ∙ is) in
-        absurd (omega arith)
 
 -- SYN counts in the LEN of a segment that is read from octets
 pub syn-counts : (own : Setup) (clock : ℕ) (octets : List ℕ) (syn : Segment) → fieldsOf (unread octets) ≡ some syn

@@ -6,9 +6,8 @@ use mathlib.Core.Path.{_≡_, refl}
 use Prim.Native.Nat.{ℕ, _<_}
 use lib.Dec.{eqb, ltb}
 use lib.ListN.{length}
-use borrow.Author.Tests.{eq-eqb, eqb-true, lt-ltb, ltb-true, not-true}
 use Rattle.laws.specs.Lists.{any}
-use Rattle.laws.proofs.Choices.{both-true}
+use Rattle.laws.proofs.Tests.{below, both, equal, holds-not}
 use Rattle.serial.specs.Serial.{isBefore}
 use Rattle.serial.specs.declared.Range.{Range}
 use Rattle.serial.specs.declared.Stamp.{Stamp}
@@ -22,19 +21,6 @@ use Rattle.connection.specs.declared.Connection.{Connection}
 use Rattle.connection.specs.Numbers.{Action, dropSilent, dropWithAck, reset}
 use Rattle.connection.specs.Verdict.{Row, rows}
 use Rattle.connection.proofs.Table.{condition}
-
--- what a test made of others says
-both : {A B : Type 0} (a b : Bool) → ((a ≡ true) ↔ A) → ((b ≡ true) ↔ B) → (a && b ≡ true) ↔ (A × B)
-both a b is-a is-b = (λ t. (is-a .0 (both-true a b t .0), is-b .0 (both-true a b t .1)), λ h. rw (is-a .1 (h .0)) (is-b .1 (h .1)))
-
-holds-not : (b : Bool) → (not b ≡ true) ↔ (b ≡ false)
-holds-not b = (not-true b, λ f. rw f)
-
-equal : (a b : ℕ) → (eqb a b ≡ true) ↔ (a ≡ b)
-equal a b = (eqb-true a b, eq-eqb a b)
-
-below : (a b : ℕ) → (ltb a b ≡ true) ↔ (a < b)
-below a b = (ltb-true a b, lt-ltb a b)
 
 module _ (k : Connection) (clock : ℕ) (s : Segment) where
   abbrev Holds : ℕ → Type 0

@@ -5,14 +5,13 @@ use mathlib.Core.List.{List, [], _∷_, _++_, append-assoc}
 use mathlib.Core.Option.{Option, none, some, Option·elim}
 use mathlib.Core.Path.{_≡_, refl, sym, ap, subst, _∙_}
 use Prim.Native.Nat.{ℕ}
-use native.Mathlib.Omega.{arith}
 use lib.Dec.{ltb}
 use Rattle.rto.specs.Calls as rto
 use Rattle.rto.specs.Demand as rto-demand
 use Rattle.rto.specs.Exact.{exactRun, unset}
 use Rattle.rto.specs.Timer.{newTimer}
-use Rattle.rto.specs.declared.Timer.{Timer}
 use Rattle.rto.proofs.Bound.{demand-3}
+use Rattle.rto.proofs.Calls as timers
 use Rattle.segment.specs.Reading.{reading}
 use Rattle.segment.specs.declared.Segment.{Segment}
 use Rattle.offers.specs.Offers.{exceedLimits}
@@ -80,16 +79,12 @@ timer-calls-append k (c ∷ cs) ds =
     ap (λ later. timerCall k c ++ later) (timer-calls-append (called k c) cs ds)
     ∙ sym (append-assoc (timerCall k c) (timerCalls (called k c) cs) (timerCalls (run (called k c) cs) ds))
 
-timer-append : (t : Timer) (cs ds : List rto.Call) → rto.run t (cs ++ ds) ≡ rto.run (rto.run t cs) ds
-timer-append t [] ds = refl
-timer-append t (c ∷ cs) ds = timer-append (rto.called t c) cs ds
-
 run-timer : (calls : List Call) (k : Connection) → run k calls .timer ≡ rto.run (k .timer) (timerCalls k calls)
 run-timer [] k = refl
 run-timer (c ∷ cs) k =
     run-timer cs (called k c)
     ∙ (ap (λ t. rto.run t (timerCalls (called k c) cs)) (called-timer k c)
-    ∙ sym (timer-append (k .timer) (timerCall k c) (timerCalls (called k c) cs)))
+    ∙ sym (timers.run-append (k .timer) (timerCall k c) (timerCalls (called k c) cs)))
 
 -- the timer is new at opening
 abbrev New : OpeningAnswer → Type 0
@@ -144,4 +139,4 @@ demand-3-in-record-worked : rto-demand.OnTime (run base timed .timer .timeout) (
 unfolding Demand3
 demand-3-in-record-worked =
     demand-3-in-record base base-opened timed
-    (record { before = []; rtt = 57; after = []; split = timed-feeds; not-refused = omega arith; last = tt })
+    (record { before = []; rtt = 57; after = []; split = timed-feeds; not-refused = refl; last = tt })

@@ -1,5 +1,5 @@
 -- What a test or two decide, and what holds of either choice. Assumes nothing.
-use mathlib.Core.Bool.{Bool, true, false, cond, not, _&&_, _||_, false≢true, or-true, true≢false}
+use mathlib.Core.Bool.{Bool, true, false, cond, not, _&&_, _||_, false≢true, true≢false}
 use mathlib.Core.Logic.{_⊎_, inl, inr}
 use mathlib.Core.Option.{Option, none, some, Option·elim}
 use mathlib.Core.Path.{_≡_, refl}
@@ -38,16 +38,7 @@ one-false true true t = absurd (false≢true t)
 one-false true false t = inr refl
 one-false false b t = inl refl
 
-pub either-true : (a b : Bool) → a || b ≡ true → (a ≡ true) ⊎ (b ≡ true)
-either-true true b t = inl refl
-either-true false b t = inr t
-
-pub or-left : (a b : Bool) → a ≡ true → a || b ≡ true
-or-left a b t = rw t
-
-pub or-right : (a b : Bool) → b ≡ true → a || b ≡ true
-or-right a b t = rw t (or-true a)
-
+-- the first two of three exchanged
 pub or-swap : (a b c : Bool) → a || (b || c) ≡ b || (a || c)
 or-swap true true c = refl
 or-swap true false c = refl

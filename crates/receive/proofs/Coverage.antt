@@ -11,7 +11,7 @@ use lib.Dec.{eqb, leb, ltb}
 use borrow.Author.Tests.{eqb-false, eqb-true, le-leb, le-ltb, leb-true, lt-leb, lt-ltb, ltb-true}
 use Rattle.laws.specs.Lists.{Each, any}
 use Rattle.laws.specs.Lists.Each.{none, more}
-use Rattle.laws.proofs.Choices.{both-true, either, either-true, or-right}
+use Rattle.laws.proofs.Choices.{both-true, either, either-true, or-right, or-swap}
 use Rattle.serial.specs.Serial.{offsetOf}
 use Rattle.serial.specs.declared.Range.{Range}
 use Rattle.serial.proofs.Offset.{offset-around, offset-below, offset-between, offset-moved, offset-self}
@@ -61,11 +61,6 @@ union a b c d from to o left right least-is greatest-is = pick (decLt o from) (d
         between _ _ o (omega arith) high ∙ sym (or-right (span a b o) _ (between c d o (omega arith) (omega arith)))
     pick (no low) (yes high) (no f) t =
         between _ _ o (omega arith) high ∙ sym (or-right (span a b o) _ (between c d o (omega arith) (omega arith)))
-
-regroup : (u s t : Bool) → u || (s || t) ≡ s || (u || t)
-regroup true true t = refl
-regroup true false t = refl
-regroup false s t = refl
 
 module _ (nxt x : ℕ) where
   abbrev o : ℕ
@@ -125,7 +120,7 @@ module _ (nxt x : ℕ) where
             (union (leftOf nxt r) (rightOf nxt r) from to (least nxt (p .from) (r ∷ met nxt p l)) (greatest nxt (p .to) (r ∷ met nxt p l)) o
             (omega (arith, greatest-least nxt (p .to) (met nxt p l))) (omega (arith, least-most nxt (p .from) (met nxt p l)))
             (omega arith) (omega (arith, greatest-least nxt (p .to) (met nxt p l))))
-            ∙ (regroup (any (isIn x) (unmet nxt p l)) (span (leftOf nxt r) (rightOf nxt r) o) (span from to o)
+            ∙ (or-swap (any (isIn x) (unmet nxt p l)) (span (leftOf nxt r) (rightOf nxt r) o) (span from to o)
             ∙ (ap (λ s. s || (any (isIn x) (unmet nxt p l) || span from to o)) (sym (in-span r (i .filled)))
             ∙ (ap (λ s. isIn x r || s) later ∙ sym (or-assoc (isIn x r) (any (isIn x) l) (liesIn p o)))))
         pick false b later = or-assoc (isIn x r) _ _ ∙ (ap (λ s. isIn x r || s) later ∙ sym (or-assoc (isIn x r) _ _))

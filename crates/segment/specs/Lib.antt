@@ -4,4 +4,3 @@ pub mod Reading
 pub mod Readable
 pub mod Part
 pub mod Internal
-pub mod Cases

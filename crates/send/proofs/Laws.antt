@@ -6,6 +6,7 @@ use Prim.Native.Nat.{ℕ, _+_, _*_, _%_, _^_, _<_, _≤_}
 use native.Mathlib.Omega.{arith}
 use borrow.Author.Tests.{le-ltb, lt-ltb}
 use Rattle.laws.proofs.Choices.{either}
+use Rattle.laws.proofs.Tests.{at-most, below, both, chosen, equal, one}
 use Rattle.serial.specs.Serial.{offsetOf}
 use Rattle.serial.specs.declared.Range.{Range}
 use Rattle.serial.proofs.Distance.{neither-before}
@@ -14,7 +15,6 @@ use Rattle.send.specs.Send.{acknowledged, exceedsWindow, isCurrent, isLa
 use Rattle.send.specs.declared.AckFields.{AckFields}
 use Rattle.send.specs.declared.Send.{Send}
 use Rattle.send.proofs.Refusal.{sent-moves, sent-refusal-leaves}
-use Rattle.send.proofs.Tests.{at-most, below, both, chosen, equal, one}
 
 module _ (iss shift : ℕ) (syn : AckFields) where
   -- SND.NXT = ISS+1, SND.WND is the window unscaled, WL1 = SEQ

@@ -1,4 +1,3 @@
 pub mod Laws
 pub mod Refusal
 pub mod Sound
-mod Tests

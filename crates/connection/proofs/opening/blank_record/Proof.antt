@@ -13,7 +13,7 @@ new-requires-2 c κs = search needs
 
 returns : tie.Need-returns
 unfolding blank
-returns c = rw (c .before .new .ensures, c .new2 .ensures)
+returns c = rw (c .before .new .ensures .0, c .new2 .ensures)
 
 pub blank-record-spec : {M : Type 1} → statement M
 blank-record-spec = tie.close (tie.spec new-requires new-requires-2 returns)

@@ -44,9 +44,9 @@ returns c =
     let fields = send .before .before in
     let receive = fields .before in
     rw (
-      receive .new .ensures,
+      receive .new .ensures .0,
       receive .before .before .moved .ensures,
-      send .new2 .ensures,
+      send .new2 .ensures .0,
       fields .ack-fields-of .ensures,
       timestamping .new3 .ensures,
       tsval .tsval-of .ensures,

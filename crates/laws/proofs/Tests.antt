@@ -1,10 +1,10 @@
--- What a test decides, as a fact: of numbers, of two tests together, and of a choice by a test. Assumes nothing.
-use mathlib.Core.Bool.{Bool, true, false, cond, and-eq-true-iff, or-eq-true-iff, false≢true, _&&_, _||_}
+-- What a test decides, as a fact, in both directions: of numbers, of tests put together, and of a choice by a test. Assumes nothing.
+use mathlib.Core.Bool.{Bool, true, false, cond, not, and-eq-true-iff, or-eq-true-iff, false≢true, _&&_, _||_}
 use mathlib.Core.Logic.{Iff·and, Iff·or, Iff·trans, _↔_, _∨₁_}
 use mathlib.Core.Path.{_≡_, refl}
 use Prim.Native.Nat.{ℕ, _<_, _≤_}
 use lib.Dec.{eqb, leb, ltb}
-use borrow.Author.Tests.{eq-eqb, eqb-true, le-leb, leb-true, lt-ltb, ltb-true}
+use borrow.Author.Tests.{eq-eqb, eqb-true, le-leb, leb-true, lt-ltb, ltb-true, not-true}
 
 module _ (a b : ℕ) where
   pub below : ltb a b ≡ true ↔ a < b
@@ -15,6 +15,9 @@ module _ (a b : ℕ) where
 
   pub equal : eqb a b ≡ true ↔ a ≡ b
   equal = (eqb-true a b, eq-eqb a b)
+
+pub holds-not : (b : Bool) → not b ≡ true ↔ b ≡ false
+holds-not b = (not-true b, λ f. rw f)
 
 module _ {P Q : Type 0} (a b : Bool) (p : a ≡ true ↔ P) (q : b ≡ true ↔ Q) where
   pub both : (a && b) ≡ true ↔ P × Q
