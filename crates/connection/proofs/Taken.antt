@@ -1,6 +1,6 @@
 -- What a take gives, part by part, and when it feeds a sample to the timer (document 01, "What taking does"), of octets and of fields read
 -- before. Assumes nothing.
-use mathlib.Core.Bool.{Bool, true, false, cond, _&&_, and-false, false≢true}
+use mathlib.Core.Bool.{Bool, true, false, cond, _&&_, _||_, and-false, false≢true}
 use mathlib.Core.List.{List, [], _∷_}
 use mathlib.Core.Logic.{_⊎_, inl, inr}
 use mathlib.Core.Option.{some}
@@ -8,10 +8,13 @@ use mathlib.Core.Path.{_≡_, refl, sym, ap, subst, _∙_}
 use Prim.Native.Nat.{ℕ}
 use Rattle.laws.specs.Lists.{filter}
 use Rattle.laws.proofs.Choices.{either}
-use Rattle.serial.specs.Serial.{roundTrip, stampAt}
+use Rattle.serial.specs.Serial.{offsetOf, roundTrip, stampAt}
 use Rattle.serial.specs.declared.Stamp.{Stamp}
+use Rattle.receive.specs.Coverage.{isReceived}
+use Rattle.receive.specs.Ranges.{liesIn}
 use Rattle.receive.specs.Taking as receive
-use Rattle.receive.specs.Window.{finInside, newPart}
+use Rattle.receive.specs.Window.{finInside, lacksRoom, newPart}
+use Rattle.receive.proofs.Coverage.{received-exactly}
 use Rattle.rto.specs.Calls as rto
 use Rattle.segment.specs.Options.{blockList}
 use Rattle.segment.specs.declared.Segment.{Segment}
@@ -20,7 +23,9 @@ use Rattle.send.specs.Send as send
 use Rattle.timestamps.specs.Timestamps as timestamps
 use Rattle.connection.specs.declared.Connection.{Connection}
 use Rattle.connection.specs.Numbers.{take}
+use Rattle.connection.specs.Record.{Sound}
 use Rattle.connection.specs.Opening.{tsvalOf}
+use Rattle.connection.specs.Verdict.{rows}
 use Rattle.connection.specs.Taking.{fedBy, listed, recordAfter, sampleOf}
 use Rattle.connection.specs.Arriving.{Arrival, arrivingRead, isTake, takenBy}
 use Rattle.connection.specs.Calls.{Incoming, arrived, fieldsOf, read, unread}
@@ -99,6 +104,26 @@ module _ (k : Connection) (clock : ℕ) (i : Incoming) (s : Segment) (is : field
   timer-after : arrived k clock i .connection .timer ≡ rto.run (k .timer) (fedBy k clock s)
   unfolding takenBy recordAfter
   timer-after = ap (λ (a : Arrival). a .connection .timer) taken-as
+
+  -- a number is received after the take exactly if it was before or lies in the new part
+  room : lacksRoom (k .receive) (s .seq .0) (s .len) ≡ false
+  unfolding rows
+  room =
+      arriving-cases k clock s Roomy (λ clear _. clear 30) (λ d drops t. absurd (false≢true (sym drops ∙ t)))
+      (sym (ap (λ (a : Arrival). isTake (a .decision .action)) (arrived-by-fields k clock i s is)) ∙ takes)
+    where
+      Roomy : Arrival → Type 0
+      Roomy a = isTake (a .decision .action) ≡ true → lacksRoom (k .receive) (s .seq .0) (s .len) ≡ false
+
+  pub take-receives : Sound k → (x : ℕ) → let nxt = k .receive .nxt .0 in
+      isReceived nxt (arrived k clock i .connection .receive) x
+      ≡ isReceived nxt (k .receive) x || liesIn (arrived k clock i .part) (offsetOf nxt x)
+  unfolding takenBy recordAfter
+  take-receives sound x =
+      let nxt = k .receive .nxt .0 in
+      ap (λ (a : Arrival). isReceived nxt (a .connection .receive) x) taken-as
+      ∙ (received-exactly (k .receive) (sound .receive-sound) (s .seq .0) (s .len) room x
+      ∙ ap (λ (a : Arrival). isReceived nxt (k .receive) x || liesIn (a .part) (offsetOf nxt x)) (sym taken-as))
 
   -- a new ACK with timestamps in force gives a sample R = (our timestamp - TSecr) mod 2^32, which is fed to the timer
   pub sample-fed : (value echoed : Stamp) → k .timestamping .active ≡ true → s .options .timestamps ≡ Timestamps.Pair value echoed
