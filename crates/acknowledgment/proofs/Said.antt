@@ -1,5 +1,5 @@
 -- What an acknowledgment says, field by field, as `read-back` has it read, and the octets of its options. Assumes nothing.
-use mathlib.Core.Bool.{true, false, cond}
+use mathlib.Core.Bool.{Bool, true, false, cond}
 use mathlib.Core.List.{List, [], _∷_, _++_}
 use mathlib.Core.Path.{_≡_, refl, ap, _∙_}
 use Prim.Native.Nat.{ℕ, _+_, _%_}
@@ -26,6 +26,14 @@ module _ (k : Connection) (ports : Ports) (clock : ℕ) where
 
   abbrev ranges : List Range
   ranges = rangesOf (k .receive .held)
+
+  -- what is said of timestamps and ranges, by what is in force
+  abbrev stamps : Bool → Timestamps
+  stamps active =
+      cond active (Timestamps.Pair (record { 0 = (clock + k .timestamping .offset) % 4294967296 }) (k .timestamping .recent)) Timestamps.Absent
+
+  abbrev blocks : Bool → Bool → List Range
+  blocks sack active = cond sack (take (cond active 3 4) ranges) []
 
   -- The header: given ports, SEQ = SND.NXT, ACK = RCV.NXT, flag ACK only, the window field, urgent 0; and no payload.
   pub ports-as-given : (s .source ≡ ports .source) × (s .destination ≡ ports .destination)
@@ -61,23 +69,20 @@ module _ (k : Connection) (ports : Ports) (clock : ℕ) where
   pub stamps-said : k .timestamping .active ≡ true
       → s .options .timestamps ≡ Timestamps.Pair (record { 0 = (clock + k .timestamping .offset) % 4294967296 }) (k .timestamping .recent)
   unfolding ownSegment ownOptions ownTimestamps
-  stamps-said active =
-      ap (λ t. cond t (Timestamps.Pair (record { 0 = (clock + k .timestamping .offset) % 4294967296 }) (k .timestamping .recent)) Timestamps.Absent)
-      active
+  stamps-said active = ap stamps active
 
   pub no-stamps : k .timestamping .active ≡ false → s .options .timestamps ≡ Timestamps.Absent
   unfolding ownSegment ownOptions ownTimestamps
-  no-stamps not =
-      ap (λ t. cond t (Timestamps.Pair (record { 0 = (clock + k .timestamping .offset) % 4294967296 }) (k .timestamping .recent)) Timestamps.Absent) not
+  no-stamps not = ap stamps not
 
   -- the first n ranges, if SACK is in force: n is at most 3 with timestamps, 4 without; else there are none
   pub blocks-said : k .sack ≡ true → blockList (s .options .blocks) ≡ take (cond (k .timestamping .active) 3 4) ranges
   unfolding ownBlocks
-  blocks-said sack = all-blocks k ports clock ∙ ap (λ t. cond t (take (cond (k .timestamping .active) 3 4) ranges) []) sack
+  blocks-said sack = all-blocks k ports clock ∙ ap (λ t. blocks t (k .timestamping .active)) sack
 
   pub no-blocks : k .sack ≡ false → blockList (s .options .blocks) ≡ []
   unfolding ownBlocks
-  no-blocks not = all-blocks k ports clock ∙ ap (λ t. cond t (take (cond (k .timestamping .active) 3 4) ranges) []) not
+  no-blocks not = all-blocks k ports clock ∙ ap (λ t. blocks t (k .timestamping .active)) not
 
   pub no-other-option : (s .options .mss ≡ Mss.Absent) × (s .options .scale ≡ WindowScale.Absent) × (s .options .permitted ≡ false)
   unfolding ownSegment ownOptions
@@ -96,17 +101,9 @@ module _ (k : Connection) (ports : Ports) (clock : ℕ) where
       ≡ 1 ∷ 1 ∷ 8 ∷ 10 ∷ (bigEndian 4 ((clock + k .timestamping .offset) % 4294967296)
       ++ (bigEndian 4 (k .timestamping .recent .0) ++ sackWritten (cond (k .sack) (take 3 ranges) [])))
   unfolding ownTimestamps ownBlocks timestampsWritten bigEndian
-  with-timestamps active =
-      options-are
-      ∙ (λ i.
-      timestampsWritten false (ownTimestamps (record { active = active i; recent = k .timestamping .recent; since = k .timestamping .since; offset = k .timestamping .offset }) clock)
-      ++ sackWritten (cond (k .sack) (take (cond (active i) 3 4) ranges) []))
+  with-timestamps active = options-are ∙ (λ i. timestampsWritten false (stamps (active i)) ++ sackWritten (blocks (k .sack) (active i)))
 
   pub without-timestamps : k .timestamping .active ≡ false → drop 20 (ownOctets k ports clock)
       ≡ sackWritten (cond (k .sack) (take 4 ranges) [])
   unfolding ownTimestamps ownBlocks timestampsWritten
-  without-timestamps not =
-      options-are
-      ∙ (λ i.
-      timestampsWritten false (ownTimestamps (record { active = not i; recent = k .timestamping .recent; since = k .timestamping .since; offset = k .timestamping .offset }) clock)
-      ++ sackWritten (cond (k .sack) (take (cond (not i) 3 4) ranges) []))
+  without-timestamps not = options-are ∙ (λ i. timestampsWritten false (stamps (not i)) ++ sackWritten (blocks (k .sack) (not i)))

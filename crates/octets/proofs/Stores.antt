@@ -28,7 +28,8 @@ sets-then l i xs ys first second =
 pub sets-cut : (l : List ℕ) (i : ℕ) (xs ys : List ℕ) → i + length xs ≡ length l → sets l i (xs ++ ys) ≡ take i l ++ xs
 sets-cut l i xs ys end =
     sym (sets-append l i xs ys) ∙ sets-out (sets l i xs) (i + length xs) ys (omega (arith, length-sets l i xs))
-    ∙ sets-eq xs l i (omega arith) ∙ ap (λ (k : List ℕ). (take i l ++ xs) ++ k) (drop-of-length-le l {i = i + length xs} (omega arith)) ∙ append-nil (take i l ++ xs)
+    ∙ sets-eq xs l i (omega arith)
+    ∙ ap (λ (k : List ℕ). (take i l ++ xs) ++ k) (drop-of-length-le l {i = i + length xs} (omega arith)) ∙ append-nil (take i l ++ xs)
 
 -- Octets at the start of a buffer with room for them.
 module _ (octets buffer : List ℕ) where

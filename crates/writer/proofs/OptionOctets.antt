@@ -46,7 +46,8 @@ unfolding scaleWritten
 scale-octets n = refl
 
 -- an option that is not there has no octets
-pub none-octets : (mssWritten Mss.Absent ≡ []) × (timestampsWritten false Timestamps.Absent ≡ []) × (scaleWritten WindowScale.Absent ≡ []) × (sackWritten [] ≡ [])
+pub none-octets : (mssWritten Mss.Absent ≡ []) × (timestampsWritten false Timestamps.Absent ≡ [])
+    × (scaleWritten WindowScale.Absent ≡ []) × (sackWritten [] ≡ [])
 unfolding mssWritten timestampsWritten scaleWritten sackWritten
 none-octets = (refl, refl, refl, refl)
 
@@ -118,7 +119,8 @@ module _ (o : Options) where
   -- the blocks that are written are the first, as many as there is room for in 40 octets
   pub first-blocks : fitting o ≡ take (length (fitting o)) (blockList (o .blocks))
   unfolding fitting
-  first-blocks = sym (take-length (fitting o)) ∙ take-take (length (fitting o)) (blockRoom (length (othersWritten o))) (blockList (o .blocks)) (fitting-most o)
+  first-blocks =
+      sym (take-length (fitting o)) ∙ take-take (length (fitting o)) (blockRoom (length (othersWritten o))) (blockList (o .blocks)) (fitting-most o)
 
   pub no-more-fit : length (fitting o) < length (blockList (o .blocks)) → 40 < length (othersWritten o) + (4 + 8 * (length (fitting o) + 1))
   unfolding fitting
