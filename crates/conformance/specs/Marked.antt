@@ -138,8 +138,8 @@ unfolding ackFieldsOf scaling segment at own opened permitted optionOctets dista
     send.updatesWindow send.windowed send.taken isNotSyn isWrongAck opening openingFrom recordFrom recordWith timestamps.opened
     timestamps.isOld timestamps.isMissing rows fedBy timestamps.isRecorded recordAfter timestamps.taken arriving arrivingRead judged settled takenBy
     writing.headerWritten writing.mssWritten writing.timestampsWritten writing.scaleWritten writing.blocksWritten writing.sackWritten
-    writing.othersWritten writing.fitting writing.optionsWritten writing.written writing.blocksOfList writing.writing ack.timestampsOf
-    ack.blocksOf ack.optionsOf ack.acknowledging
+    writing.othersWritten writing.fitting writing.optionsWritten writing.written writing.blocksOfList writing.writing ack.ownTimestamps
+    ack.ownBlocks ack.ownOptions ack.acknowledging
 after lefts wl1 = record {
   receive = record {
     nxt = record { 0 = 5500 };

@@ -45,6 +45,14 @@ unfolding opened
 opened-within nxt window shift small most =
     record { nxt-is = refl; window-is = omega arith; shift-is = omega arith; acked-is = refl; none-held = ranges-held [] }
 
+-- opening the window sets the receive window to the new one, and changes nothing else
+pub record Widens (r : Receive) (window : ℕ) (t : Receive) : Type 0 where
+  pub window-is : t .window ≡ window
+  pub nxt-stays : t .nxt ≡ r .nxt
+  pub shift-stays : t .shift ≡ r .shift
+  pub acked-stays : t .acked ≡ r .acked
+  pub held-stays : t .held ≡ r .held
+
 module _ (r : Receive) (window : ℕ) where
   -- E13 exactly: a new window below the present one, or above 65,535 x 2^rcv shift
   not-e13 : r .window ≤ window → window ≤ 65535 * 2 ^ (r .shift) → isWindowRefused r window ≡ false
@@ -69,18 +77,11 @@ module _ (r : Receive) (window : ℕ) where
   window-refused outside = window-refusal-leaves (e13 outside)
 
   -- any other window is set, and nothing else changes
-  pub record Widens (a : Answer) : Type 0 where
-    pub number-is : a .number ≡ 0
-    pub window-is : a .receive .window ≡ window
-    pub nxt-stays : a .receive .nxt ≡ r .nxt
-    pub shift-stays : a .receive .shift ≡ r .shift
-    pub acked-stays : a .receive .acked ≡ r .acked
-    pub held-stays : a .receive .held ≡ r .held
-
-  pub window-set : r .window ≤ window → window ≤ 65535 * 2 ^ (r .shift) → Widens (windowOpened r window)
+  pub window-set : r .window ≤ window → window ≤ 65535 * 2 ^ (r .shift)
+      → (windowOpened r window .number ≡ 0) × Widens r window (windowOpened r window .receive)
   window-set low high =
-      subst Widens (sym (window-opens (not-e13 low high)))
-      (record { number-is = refl; window-is = refl; nxt-stays = refl; shift-stays = refl; acked-stays = refl; held-stays = refl })
+      subst (λ (a : Answer). (a .number ≡ 0) × Widens r window (a .receive)) (sym (window-opens (not-e13 low high)))
+      (refl, record { window-is = refl; nxt-stays = refl; shift-stays = refl; acked-stays = refl; held-stays = refl })
 
 -- the ranges stay within a window that does not shrink
 pub opened-window-sound : (r : Receive) (window : ℕ) → Sound r → Sound (windowOpened r window .receive)

@@ -1,7 +1,7 @@
 -- What document 01 says of the send side, apart from the definitions: what each test decides, what is moved, and what stays. Assumes nothing.
 use mathlib.Core.Bool.{Bool, true, false}
 use mathlib.Core.Logic.{_↔_, _∨₁_}
-use mathlib.Core.Path.{_≡_, refl, ap, _∙_}
+use mathlib.Core.Path.{_≡_, refl, sym, ap, subst, _∙_}
 use Prim.Native.Nat.{ℕ, _+_, _*_, _%_, _^_, _<_, _≤_}
 use native.Mathlib.Omega.{arith}
 use borrow.Author.Tests.{le-ltb, lt-ltb}
@@ -11,7 +11,7 @@ use Rattle.serial.specs.Serial.{offsetOf}
 use Rattle.serial.specs.declared.Range.{Range}
 use Rattle.serial.proofs.Distance.{neither-before}
 use Rattle.serial.proofs.Order.{AtOrBefore, Before, at-or-before-exactly, before-exactly}
-use Rattle.send.specs.Send.{acknowledged, exceedsWindow, isCurrent, isLater, isListed, isNew, isUnsent, opened, sent, taken, updatesWindow, windowed}
+use Rattle.send.specs.Send.{Answer, acknowledged, exceedsWindow, isCurrent, isLater, isListed, isNew, isUnsent, opened, sent, taken, updatesWindow, windowed}
 use Rattle.send.specs.declared.AckFields.{AckFields}
 use Rattle.send.specs.declared.Send.{Send}
 use Rattle.send.proofs.Refusal.{sent-moves, sent-refusal-leaves}
@@ -138,24 +138,24 @@ module _ (s : Send) (fields : AckFields) where
   unfolding taken windowed acknowledged
   take-leaves-shift = either (λ (t : Send). t .shift ≡ s .shift) (updatesWindow s fields) _ _ (λ _. refl) (λ _. refl)
 
--- E12: noting n sent octets with (NXT - UNA) + n above SND.WND, and then the send side stays; otherwise noting adds n to SND.NXT, and changes
--- nothing else
+-- noting n octets adds n to SND.NXT, and changes nothing else
+pub record Notes (s : Send) (n : ℕ) (t : Send) : Type 0 where
+  pub nxt-moves : t .nxt .0 ≡ (s .nxt .0 + n) % 2 ^ 32
+  pub una-stays : t .una ≡ s .una
+  pub window-stays : t .window ≡ s .window
+  pub shift-stays : t .shift ≡ s .shift
+  pub wl1-stays : t .wl1 ≡ s .wl1
+  pub wl2-stays : t .wl2 ≡ s .wl2
+
+-- E12: noting n sent octets with (NXT - UNA) + n above SND.WND, and then the send side stays; otherwise they are noted
 module _ (s : Send) (n : ℕ) where
   pub sent-refused : s .window < offsetOf (s .una .0) (s .nxt .0) + n → sent s n ≡ record { number = 12; send = s }
   unfolding exceedsWindow
   sent-refused over = sent-refusal-leaves s n (lt-ltb (s .window) (offsetOf (s .una .0) (s .nxt .0) + n) over)
 
-  pub sent-noted : offsetOf (s .una .0) (s .nxt .0) + n ≤ s .window → let a = sent s n in
-      (a .number ≡ 0) × (a .send .nxt .0 ≡ (s .nxt .0 + n) % 2 ^ 32) × (a .send .una ≡ s .una) × (a .send .window ≡ s .window)
-      × (a .send .shift ≡ s .shift) × (a .send .wl1 ≡ s .wl1) × (a .send .wl2 ≡ s .wl2)
+  pub sent-noted : offsetOf (s .una .0) (s .nxt .0) + n ≤ s .window → (sent s n .number ≡ 0) × Notes s n (sent s n .send)
   unfolding exceedsWindow
   sent-noted fits =
-      let e = sent-moves s n (le-ltb (s .window) (offsetOf (s .una .0) (s .nxt .0) + n) fits) in (
-        ap (λ a. a .number) e,
-        ap (λ a. a .send .nxt .0) e,
-        ap (λ a. a .send .una) e,
-        ap (λ a. a .send .window) e,
-        ap (λ a. a .send .shift) e,
-        ap (λ a. a .send .wl1) e,
-        ap (λ a. a .send .wl2) e,
-      )
+      let e = sent-moves s n (le-ltb (s .window) (offsetOf (s .una .0) (s .nxt .0) + n) fits) in
+      subst (λ (a : Answer). (a .number ≡ 0) × Notes s n (a .send)) (sym e)
+      (refl, record { nxt-moves = refl; una-stays = refl; window-stays = refl; shift-stays = refl; wl1-stays = refl; wl2-stays = refl })
