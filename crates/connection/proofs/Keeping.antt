@@ -54,7 +54,7 @@ module _ (own : Setup) (clock : ℕ) where
 
   pub opening-read-sound : (syn : Segment) → Sound (openingRead own clock syn .connection)
   unfolding openingRead
-  opening-read-sound syn = either SoundOpening _ (refusedOpening 9) _ (λ _. blank-sound) (λ _. opening-from-sound syn)
+  opening-read-sound syn = either SoundOpening _ (refusedOpening 9) (openingFrom own clock syn) (λ _. blank-sound) (λ _. opening-from-sound syn)
 
   pub opening-sound : (octets : List ℕ) → Sound (opening own clock octets .connection)
   unfolding opening
