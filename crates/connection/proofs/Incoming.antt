@@ -4,13 +4,12 @@ use mathlib.Core.List.{List}
 use mathlib.Core.Option.{Option, none, some, Option·elim}
 use mathlib.Core.Path.{_≡_, ap}
 use Prim.Native.Nat.{ℕ}
-use Rattle.offers.specs.Offers.{exceedLimits}
 use Rattle.segment.specs.Reading.{reading}
 use Rattle.segment.specs.declared.Segment.{Segment}
 use Rattle.connection.specs.declared.Connection.{Connection}
 use Rattle.connection.specs.declared.Setup.{Setup}
 use Rattle.connection.specs.Numbers.{refuse}
-use Rattle.connection.specs.Opening.{OpeningAnswer, opening, openingFrom, openingRead, refusedOpening}
+use Rattle.connection.specs.Opening.{OpeningAnswer, exceedsLimits, opening, openingFrom, openingRead, refusedOpening}
 use Rattle.connection.specs.Arriving.{arriving, arrivingRead, refusedWith, unchanged}
 use Rattle.connection.specs.Calls.{Incoming, arrived, fieldsOf, openedBy, read, unread}
 
@@ -19,7 +18,7 @@ pub opened-by-fields : (own : Setup) (clock : ℕ) (i : Incoming) (s : Segment) 
 unfolding opening openingRead Option·elim
 opened-by-fields own clock (unread octets) s is =
     let by : Option Segment → OpeningAnswer = λ o. Option·elim o (refusedOpening (reading octets .number)) (openingFrom own clock) in
-    ap (λ o. cond (exceedLimits (own .offers) (own .window)) (refusedOpening 9) (by o)) is
+    ap (λ o. cond (exceedsLimits own) (refusedOpening 9) (by o)) is
 opened-by-fields own clock (read x) s is = ap (λ o. openingRead own clock (Option·elim o x (λ y. y))) is
 
 pub arrived-by-fields : (k : Connection) (clock : ℕ) (i : Incoming) (s : Segment) → fieldsOf i ≡ some s

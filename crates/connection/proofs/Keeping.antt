@@ -6,7 +6,6 @@ use Prim.Native.Nat.{ℕ}
 use native.Mathlib.Omega.{arith}
 use lib.Dec.{ltb}
 use Rattle.serial.specs.Serial.{movedBy}
-use Rattle.offers.specs.Offers.{exceedLimits}
 use Rattle.receive.proofs.Opening as opening-side
 use Rattle.receive.proofs.Taken as receive-side
 use Rattle.rto.specs.Calls.{expiry}
@@ -18,7 +17,7 @@ use Rattle.connection.specs.declared.Connection.{Connection}
 use Rattle.connection.specs.declared.Setup.{Setup}
 use Rattle.connection.specs.Numbers.{Decision}
 use Rattle.connection.specs.Record.{Sound, blank}
-use Rattle.connection.specs.Opening.{OpeningAnswer, isNotSyn, isWrongAck, opening, openingFrom, openingRead, recordFrom, recordWith, refusedOpening, ackFieldsOf}
+use Rattle.connection.specs.Opening.{OpeningAnswer, ackFieldsOf, exceedsLimits, isNotSyn, isWrongAck, opening, openingFrom, openingRead, recordFrom, recordWith, refusedOpening}
 use Rattle.connection.specs.Verdict.{decided, rows}
 use Rattle.connection.specs.Taking.{fedBy, recordAfter}
 use Rattle.connection.specs.Arriving.{Arrival, arriving, arrivingRead, isTake, judged, settled, takenBy}
@@ -54,12 +53,13 @@ module _ (own : Setup) (clock : ℕ) where
 
   pub opening-read-sound : (syn : Segment) → Sound (openingRead own clock syn .connection)
   unfolding openingRead
-  opening-read-sound syn = either SoundOpening _ (refusedOpening 9) (openingFrom own clock syn) (λ _. blank-sound) (λ _. opening-from-sound syn)
+  opening-read-sound syn =
+      either SoundOpening (exceedsLimits own) (refusedOpening 9) _ (λ _. blank-sound) (λ _. opening-from-sound syn)
 
   pub opening-sound : (octets : List ℕ) → Sound (opening own clock octets .connection)
   unfolding opening
   opening-sound octets =
-      either SoundOpening (exceedLimits (own .offers) (own .window)) (refusedOpening 9) _ (λ _. blank-sound)
+      either SoundOpening (exceedsLimits own) (refusedOpening 9) _ (λ _. blank-sound)
       (λ _.
       if-some SoundOpening (reading octets .fields) (refusedOpening (reading octets .number)) (openingFrom own clock) blank-sound
       opening-from-sound)

@@ -4,7 +4,6 @@ use mathlib.Core.List.{List}
 use mathlib.Core.Path.{_≡_, refl, sym}
 use Prim.Native.Nat.{ℕ}
 use lib.Dec.{ltb}
-use Rattle.offers.specs.Offers.{exceedLimits}
 use Rattle.receive.specs.Window as receive
 use Rattle.segment.specs.Reading.{reading}
 use Rattle.segment.specs.declared.Segment.{Segment}
@@ -12,7 +11,7 @@ use Rattle.send.specs.Send as send
 use Rattle.connection.specs.declared.Connection.{Connection}
 use Rattle.connection.specs.declared.Setup.{Setup}
 use Rattle.connection.specs.Numbers.{Decision, refuse}
-use Rattle.connection.specs.Opening.{OpeningAnswer, isNotSyn, isWrongAck, opening, openingFrom, openingRead, refusedOpening}
+use Rattle.connection.specs.Opening.{OpeningAnswer, exceedsLimits, isNotSyn, isWrongAck, opening, openingFrom, openingRead, refusedOpening}
 use Rattle.connection.specs.Verdict.{decided, rows}
 use Rattle.connection.specs.Arriving.{Arrival, arriving, arrivingRead, isTake, judged, settled, takenBy, unchanged}
 use Rattle.connection.specs.Operations.{sent, windowOpened, withReceive, withSend}
@@ -54,12 +53,12 @@ module _ (own : Setup) (clock : ℕ) where
   pub opening-read-refusal : (syn : Segment) → Blank (openingRead own clock syn)
   unfolding openingRead
   opening-read-refusal syn =
-      either Blank (exceedLimits (own .offers) (own .window)) _ _ (λ _ e. refl) (λ _. opening-from-refusal syn)
+      either Blank (exceedsLimits own) _ _ (λ _ e. refl) (λ _. opening-from-refusal syn)
 
   pub opening-refusal : (octets : List ℕ) → Blank (opening own clock octets)
   unfolding opening
   opening-refusal octets =
-      either Blank (exceedLimits (own .offers) (own .window)) _ _ (λ _ e. refl)
+      either Blank (exceedsLimits own) _ _ (λ _ e. refl)
       (λ _. if-some Blank (reading octets .fields) _ (openingFrom own clock) (λ e. refl) opening-from-refusal)
 
 -- E12 and E13 leave the record

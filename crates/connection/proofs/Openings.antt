@@ -27,7 +27,7 @@ use Rattle.send.specs.Send as send
 use Rattle.timestamps.specs.Timestamps as timestamps
 use Rattle.connection.specs.declared.Connection.{Connection}
 use Rattle.connection.specs.declared.Setup.{Setup}
-use Rattle.connection.specs.Opening.{OpeningAnswer, isNotSyn, isWrongAck, mssOf, opening, openingFrom, openingRead, peerOffers, recordFrom, recordWith, refusedOpening, tsvalOf}
+use Rattle.connection.specs.Opening.{OpeningAnswer, exceedsLimits, isNotSyn, isWrongAck, mssOf, opening, openingFrom, openingRead, peerOffers, recordFrom, recordWith, refusedOpening, tsvalOf}
 use Rattle.connection.specs.Calls.{Incoming, fieldsOf, openedBy, read, unread}
 use Rattle.connection.proofs.Incoming.{opened-by-fields}
 
@@ -98,7 +98,7 @@ pub opening-gives : (own : Setup) (clock : ℕ) (syn : Segment) → openingRead 
     → Gives own clock syn (openingRead own clock syn)
 unfolding openingRead openingFrom isNotSyn
 opening-gives own clock syn =
-    either Given (exceedLimits (own .offers) (own .window)) _ _ (λ _ e. absurd (omega arith))
+    either Given (exceedsLimits own) _ _ (λ _ e. absurd (omega arith))
     (λ within.
     either Given (isNotSyn syn) _ _ (λ _ e. absurd (omega arith))
     (λ is-syn.

@@ -14,12 +14,11 @@ use Rattle.rto.proofs.Bound.{demand-3}
 use Rattle.rto.proofs.Calls as timers
 use Rattle.segment.specs.Reading.{reading}
 use Rattle.segment.specs.declared.Segment.{Segment}
-use Rattle.offers.specs.Offers.{exceedLimits}
 use Rattle.connection.specs.declared.Connection.{Connection}
 use Rattle.connection.specs.declared.Setup.{Setup}
 use Rattle.connection.specs.Numbers.{Decision}
 use Rattle.connection.specs.Record.{Sound, blank}
-use Rattle.connection.specs.Opening.{OpeningAnswer, isNotSyn, isWrongAck, opening, openingFrom, openingRead, recordFrom, recordWith}
+use Rattle.connection.specs.Opening.{OpeningAnswer, exceedsLimits, isNotSyn, isWrongAck, opening, openingFrom, openingRead, recordFrom, recordWith}
 use Rattle.connection.specs.Verdict.{decided, rows}
 use Rattle.connection.specs.Taking.{fedBy, recordAfter}
 use Rattle.connection.specs.Arriving.{arriving, arrivingRead, isTake, judged, refusedWith, settled, takenBy, unchanged}
@@ -99,10 +98,10 @@ module _ (own : Setup) (clock : ℕ) where
   opening-timer : (syn : Incoming) → New (openedBy own clock syn)
   unfolding opening openingRead blank
   opening-timer (unread octets) =
-      either New (exceedLimits (own .offers) (own .window)) _ _ (λ _. refl)
+      either New (exceedsLimits own) _ _ (λ _. refl)
       (λ _. if-some New (reading octets .fields) _ (openingFrom own clock) refl opening-from-timer)
   opening-timer (read syn) =
-      either New (exceedLimits (own .offers) (own .window)) _ _ (λ _. refl) (λ _. opening-from-timer syn)
+      either New (exceedsLimits own) _ _ (λ _. refl) (λ _. opening-from-timer syn)
 
 opened-timer : (k : Connection) → Opened k → k .timer ≡ newTimer
 opened-timer k o = sym (ap (λ (x : Connection). x .timer) (o .opens)) ∙ opening-timer (o .own) (o .clock) (o .syn)

@@ -46,6 +46,10 @@ peerOffers syn = record {
   sack = syn .options .permitted;
 }
 
+-- E9: own shift above 14, or first receive window above 65,535
+abbrev pub exceedsLimits : Setup → Bool
+exceedsLimits own = exceedLimits (own .offers) (own .window)
+
 -- E10: opening segment lacks SYN, or has RST
 unfoldable pub isNotSyn : Segment → Bool
 isNotSyn syn = not (syn .flags .syn) || syn .flags .rst
@@ -90,12 +94,12 @@ openingFrom own clock syn =
 
 -- E9, E10, E11, of a segment that has been read
 unfoldable pub openingRead : Setup → ℕ → Segment → OpeningAnswer
-openingRead own clock syn = cond (exceedLimits (own .offers) (own .window)) (refusedOpening 9) (openingFrom own clock syn)
+openingRead own clock syn = cond (exceedsLimits own) (refusedOpening 9) (openingFrom own clock syn)
 
 -- E9, reading, E10, E11
 unfoldable pub opening : Setup → ℕ → List ℕ → OpeningAnswer
 opening own clock octets =
-    cond (exceedLimits (own .offers) (own .window)) (refusedOpening 9)
+    cond (exceedsLimits own) (refusedOpening 9)
     (Option·elim (reading octets .fields) (refusedOpening (reading octets .number)) (openingFrom own clock))
 
 abbrev pub shownOpen : OpenAnswer → OpeningAnswer

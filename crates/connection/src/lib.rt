@@ -212,8 +212,7 @@ impl Connection {
         ensures answer { λ r. ⌜ shownOpen r ≡ opening own clock (now (syn .entry)) ⌝ }
         ensures sound { λ r. ⌜ Sound (r .connection) ⌝ }
     {
-        let offers = own.offers;
-        if offers.exceed_limits(own.window) {
+        if opening::exceeds_limits(own) {
             return opening::refused(OpenRefusal::ExceededLimits);
         }
         let reading = segment::read(syn);
@@ -228,8 +227,7 @@ impl Connection {
         ensures answer { λ r. ⌜ shownOpen r ≡ openingRead own clock syn ⌝ }
         ensures sound { λ r. ⌜ Sound (r .connection) ⌝ }
     {
-        let offers = own.offers;
-        if offers.exceed_limits(own.window) {
+        if opening::exceeds_limits(own) {
             return opening::refused(OpenRefusal::ExceededLimits);
         }
         opening::open_from(own, clock, syn)

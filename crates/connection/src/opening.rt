@@ -1,7 +1,7 @@
 // Opening a record from the peer's SYN segment.
 ghost use mathlib.Core.Path.{_≡_};
 ghost use Rattle.connection.specs.Numbers.{openRefusalNumber};
-ghost use Rattle.connection.specs.Opening.{isNotSyn, isWrongAck, mssOf, openingFrom, peerOffers, recordFrom, recordWith, refusedOpening, scaleOf, shownOpen};
+ghost use Rattle.connection.specs.Opening.{exceedsLimits, isNotSyn, isWrongAck, mssOf, openingFrom, peerOffers, recordFrom, recordWith, refusedOpening, scaleOf, shownOpen};
 ghost use Rattle.connection.specs.Record.{blank};
 use super::Connection;
 use super::OpenAnswer;
@@ -59,6 +59,14 @@ fn peer_offers(syn: Segment) -> Offers
         timestamps,
         sack,
     }
+}
+
+// E9.
+pub fn exceeds_limits(own: Setup) -> bool
+    ensures { λ r. ⌜ r ≡ exceedsLimits own ⌝ }
+{
+    let offers = own.offers;
+    offers.exceed_limits(own.window)
 }
 
 // E10.

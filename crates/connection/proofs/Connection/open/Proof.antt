@@ -10,8 +10,8 @@ use borrow.Author.Needs.{needs}
 use Rattle.connection.proofs.Connection.open.Statement.{statement}
 use Rattle.connection.proofs.Connection.open.Tie as tie
 
-exceed-limits-requires : tie.Need-exceed-limits-requires
-exceed-limits-requires c κs = search needs
+exceeds-limits-requires : tie.Need-exceeds-limits-requires
+exceeds-limits-requires c κs = search needs
 
 refused-requires : tie.Need-refused-requires
 refused-requires c κs = search needs
@@ -19,9 +19,9 @@ refused-requires c κs = search needs
 returns : tie.Need-returns
 unfolding opening Option·elim
 returns c =
-    let a = c .before .before .before .before .before .args in
+    let a = c .before .before .before .before .args in
     let is : shownOpen (c .refused .result) ≡ opening (a .own) (a .clock) (now (a .syn)) =
-    rw (sym (c .before .before .exceed-limits .ensures) ∙ c .before .if1 .taken) (c .refused .ensures) in
+    rw (sym (c .before .before .exceeds-limits .ensures) ∙ c .before .if1 .taken) (c .refused .ensures) in
     (is, subst SoundOpening (sym is) (opening-sound (a .own) (a .clock) (now (a .syn))))
 
 read-requires : tie.Need-read-requires
@@ -42,8 +42,8 @@ open-from-requires c κs = search needs
 returns-2 : tie.Need-returns-2
 unfolding opening Option·elim
 returns-2 c =
-    let a = c .before .before .before .before .before .before .before .before .before .args in
-    let kept = sym (c .before .before .before .before .before .before .exceed-limits .ensures) ∙ c .before .before .before .before .before .if1 .left in
+    let a = c .before .before .before .before .before .before .before .before .args in
+    let kept = sym (c .before .before .before .before .before .before .exceeds-limits .ensures) ∙ c .before .before .before .before .before .if1 .left in
     let read = sym (c .before .before .before .before .read .ensures) ∙ ap shown (c .before .before .reading .given .1) in
     let is : shownOpen (c .refused2 .result) ≡ opening (a .own) (a .clock) (now (a .syn)) = rw (kept, read) (c .refused2 .ensures) in
     (is, subst SoundOpening (sym is) (opening-sound (a .own) (a .clock) (now (a .syn))))
@@ -51,8 +51,8 @@ returns-2 c =
 returns-3 : tie.Need-returns-3
 unfolding opening Option·elim
 returns-3 c =
-    let a = c .before .before .before .before .before .before .before .before .before .args in
-    let kept = sym (c .before .before .before .before .before .before .exceed-limits .ensures) ∙ c .before .before .before .before .before .if1 .left in
+    let a = c .before .before .before .before .before .before .before .before .args in
+    let kept = sym (c .before .before .before .before .before .before .exceeds-limits .ensures) ∙ c .before .before .before .before .before .if1 .left in
     let read = sym (c .before .before .before .before .read .ensures) ∙ ap shown (c .before .before .reading2 .given .1) in
     let is : shownOpen (c .open-from .result) ≡ opening (a .own) (a .clock) (now (a .syn)) = rw (kept, read) (c .open-from .ensures) in
     (is, subst SoundOpening (sym is) (opening-sound (a .own) (a .clock) (now (a .syn))))
@@ -61,7 +61,7 @@ pub open-spec : {M : Type 1} → statement M
 open-spec =
     tie.close
     (tie.spec
-    exceed-limits-requires
+    exceeds-limits-requires
     refused-requires
     returns
     read-requires

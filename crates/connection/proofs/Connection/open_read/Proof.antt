@@ -7,8 +7,8 @@ use borrow.Author.Needs.{needs}
 use Rattle.connection.proofs.Connection.open_read.Statement.{statement}
 use Rattle.connection.proofs.Connection.open_read.Tie as tie
 
-exceed-limits-requires : tie.Need-exceed-limits-requires
-exceed-limits-requires c κs = search needs
+exceeds-limits-requires : tie.Need-exceeds-limits-requires
+exceeds-limits-requires c κs = search needs
 
 refused-requires : tie.Need-refused-requires
 refused-requires c κs = search needs
@@ -16,9 +16,9 @@ refused-requires c κs = search needs
 returns : tie.Need-returns
 unfolding openingRead
 returns c =
-    let a = c .before .before .before .before .args in
+    let a = c .before .before .before .args in
     let is : shownOpen (c .refused .result) ≡ openingRead (a .own) (a .clock) (a .syn) =
-    rw (sym (c .before .before .exceed-limits .ensures) ∙ c .before .if1 .taken) (c .refused .ensures) in
+    rw (sym (c .before .before .exceeds-limits .ensures) ∙ c .before .if1 .taken) (c .refused .ensures) in
     (is, subst SoundOpening (sym is) (opening-read-sound (a .own) (a .clock) (a .syn)))
 
 open-from-requires : tie.Need-open-from-requires
@@ -27,10 +27,10 @@ open-from-requires c κs = search needs
 returns-2 : tie.Need-returns-2
 unfolding openingRead
 returns-2 c =
-    let a = c .before .before .before .before .args in
+    let a = c .before .before .before .args in
     let is : shownOpen (c .open-from .result) ≡ openingRead (a .own) (a .clock) (a .syn) =
-    rw (sym (c .before .before .exceed-limits .ensures) ∙ c .before .if1 .left) (c .open-from .ensures) in
+    rw (sym (c .before .before .exceeds-limits .ensures) ∙ c .before .if1 .left) (c .open-from .ensures) in
     (is, subst SoundOpening (sym is) (opening-read-sound (a .own) (a .clock) (a .syn)))
 
 pub open-read-spec : {M : Type 1} → statement M
-open-read-spec = tie.close (tie.spec exceed-limits-requires refused-requires returns open-from-requires returns-2)
+open-read-spec = tie.close (tie.spec exceeds-limits-requires refused-requires returns open-from-requires returns-2)
