@@ -6,11 +6,11 @@ use Prim.Native.Nat.{ℕ, _+_, _%_}
 use lib.ListN.{drop, take}
 use Rattle.serial.specs.declared.Range.{Range}
 use Rattle.octets.specs.Octets.{bigEndian}
+use Rattle.offers.specs.declared.Scale.{Scale}
 use Rattle.segment.specs.Options.{blockList}
 use Rattle.segment.specs.declared.Mss.{Mss}
 use Rattle.segment.specs.declared.Segment.{Segment}
 use Rattle.segment.specs.declared.Timestamps.{Timestamps}
-use Rattle.segment.specs.declared.WindowScale.{WindowScale}
 use Rattle.writer.specs.Writing.{mssWritten, sackWritten, scaleWritten, timestampsWritten}
 use Rattle.writer.specs.declared.Ports.{Ports}
 use Rattle.writer.proofs.OptionOctets.{from-20, in-order}
@@ -84,7 +84,7 @@ module _ (k : Connection) (ports : Ports) (clock : ℕ) where
   unfolding ownBlocks
   no-blocks not = all-blocks k ports clock ∙ ap (λ t. blocks t (k .timestamping .active)) not
 
-  pub no-other-option : (s .options .mss ≡ Mss.Absent) × (s .options .scale ≡ WindowScale.Absent) × (s .options .permitted ≡ false)
+  pub no-other-option : (s .options .mss ≡ Mss.Absent) × (s .options .scale ≡ Scale.Absent) × (s .options .permitted ≡ false)
   unfolding ownSegment ownOptions
   no-other-option = (refl, refl, refl)
 

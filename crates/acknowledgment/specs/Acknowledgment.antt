@@ -6,11 +6,11 @@ use lib.Dec.{eqb, ltb}
 use lib.ListN.{take}
 use Rattle.serial.specs.Serial.{stampAt}
 use Rattle.serial.specs.declared.Range.{Range}
+use Rattle.offers.specs.declared.Scale.{Scale}
 use Rattle.segment.specs.declared.Flags.{Flags}
 use Rattle.segment.specs.declared.Mss.{Mss}
 use Rattle.segment.specs.declared.Options.{Options}
 use Rattle.segment.specs.declared.Timestamps.{Timestamps}
-use Rattle.segment.specs.declared.WindowScale.{WindowScale}
 use Rattle.writer.specs.Writing as writer
 use Rattle.writer.specs.declared.Header.{Header}
 use Rattle.writer.specs.declared.Ports.{Ports}
@@ -47,7 +47,7 @@ ownBlocks k = cond (k .sack) (take (cond (k .timestamping .active) 3 4) (rangesO
 unfoldable pub ownOptions : Connection → ℕ → Options
 ownOptions k clock = record {
   mss = Mss.Absent;
-  scale = WindowScale.Absent;
+  scale = Scale.Absent;
   permitted = false;
   blocks = writer.blocksOfList (ownBlocks k);
   timestamps = ownTimestamps (k .timestamping) clock;

@@ -9,6 +9,7 @@ ghost use Rattle.connection.specs.Operations.{acknowledged};
 ghost use Rattle.connection.specs.Record.{Sound};
 ghost use Rattle.acknowledgment.specs.Acknowledgment.{acknowledging, outcomeNumber, ownBlocks, ownHeader, ownOptions, ownTimestamps, refusalNumber, shown, windowField};
 use connection::Connection;
+use offers::Scale;
 use receive::Held;
 use receive::Receive;
 use segment::Flags;
@@ -16,7 +17,6 @@ use segment::Mss;
 use segment::Options;
 use segment::SackBlocks;
 use segment::Timestamps;
-use segment::WindowScale;
 use serial::Stamp;
 use timestamps::Timestamping;
 use writer::Header;
@@ -169,7 +169,7 @@ fn own_options(k: Connection, clock: u64) -> Options
     let blocks = own_blocks(k);
     let timestamps = own_timestamps(k.timestamping, clock);
     let mss = Mss::Absent;
-    let scale = WindowScale::Absent;
+    let scale = Scale::Absent;
     Options {
         mss,
         scale,

@@ -1,6 +1,7 @@
 // What is added up of each answer, so that no part of it can be left out of the measured work. Sums are modulo 2^64.
 use connection::Arrival;
 use connection::Connection;
+use offers::Scale;
 use receive::Part;
 use segment::Flags;
 use segment::Mss;
@@ -8,7 +9,6 @@ use segment::Options;
 use segment::SackBlocks;
 use segment::Segment;
 use segment::Timestamps;
-use segment::WindowScale;
 use serial::Range;
 use std::num::wrapping_add_u64;
 use std::num::wrapping_sub_u32;
@@ -111,10 +111,10 @@ fn mss(option: Mss) -> u64 {
     }
 }
 
-fn scale(option: WindowScale) -> u64 {
+fn scale(option: Scale) -> u64 {
     match option {
-        WindowScale::Absent => 0,
-        WindowScale::Shift(n) => n as u64,
+        Scale::Absent => 0,
+        Scale::Shift(n) => n as u64,
     }
 }
 

@@ -12,7 +12,6 @@ use Rattle.laws.proofs.Choices.{either, neither}
 use Rattle.serial.specs.declared.Stamp.{Stamp}
 use Rattle.offers.specs.Offers.{exceedLimits, inForce}
 use Rattle.offers.specs.declared.InForce.{InForce}
-use Rattle.offers.specs.declared.Scale.{Scale}
 use Rattle.offers.proofs.Limits.{shifts-most, window-most}
 use Rattle.receive.specs.Ranges.{heldOf, rangesOf}
 use Rattle.receive.specs.Window as receive
@@ -20,7 +19,6 @@ use Rattle.segment.specs.Reading.{reading}
 use Rattle.segment.specs.declared.Mss.{Mss}
 use Rattle.segment.specs.declared.Segment.{Segment}
 use Rattle.segment.specs.declared.Timestamps.{Timestamps}
-use Rattle.segment.specs.declared.WindowScale.{WindowScale}
 use Rattle.segment.proofs.Readable.{readable}
 use Rattle.segment.proofs.Refused.{read-whole}
 use Rattle.send.specs.Send as send
@@ -124,11 +122,8 @@ syn-counts own clock octets syn is opens =
 
 -- what the peer's SYN offers: what it has
 module _ (syn : Segment) where
-  pub scale-offered : (shift : ℕ) → syn .options .scale ≡ WindowScale.Shift shift → peerOffers syn .scale ≡ Scale.Shift shift
-  scale-offered shift has = rw has
-
-  pub scale-not-offered : syn .options .scale ≡ WindowScale.Absent → peerOffers syn .scale ≡ Scale.Absent
-  scale-not-offered lacks = rw lacks
+  pub scale-offered : peerOffers syn .scale ≡ syn .options .scale
+  scale-offered = refl
 
   pub timestamps-offered : (value echoed : Stamp) → syn .options .timestamps ≡ Timestamps.Pair value echoed
       → peerOffers syn .timestamps ≡ true

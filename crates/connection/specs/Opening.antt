@@ -8,14 +8,12 @@ use Rattle.serial.specs.Serial.{movedBy}
 use Rattle.offers.specs.Offers.{exceedLimits, inForce}
 use Rattle.offers.specs.declared.InForce.{InForce}
 use Rattle.offers.specs.declared.Offers.{Offers}
-use Rattle.offers.specs.declared.Scale.{Scale}
 use Rattle.receive.specs.Window as receive
 use Rattle.rto.specs.Timer.{newTimer}
 use Rattle.segment.specs.Reading.{reading}
 use Rattle.segment.specs.declared.Mss.{Mss}
 use Rattle.segment.specs.declared.Segment.{Segment}
 use Rattle.segment.specs.declared.Timestamps.{Timestamps}
-use Rattle.segment.specs.declared.WindowScale.{WindowScale}
 use Rattle.send.specs.Send as send
 use Rattle.send.specs.declared.AckFields.{AckFields}
 use Rattle.timestamps.specs.Timestamps as timestamps
@@ -35,13 +33,9 @@ tsvalOf Timestamps.Absent = Tsval.Absent
 tsvalOf (Timestamps.Pair value echoed) = Tsval.Value value
 
 -- what the peer's SYN offers
-abbrev pub scaleOf : WindowScale → Scale
-scaleOf WindowScale.Absent = Scale.Absent
-scaleOf (WindowScale.Shift shift) = Scale.Shift shift
-
 abbrev pub peerOffers : Segment → Offers
 peerOffers syn = record {
-  scale = scaleOf (syn .options .scale);
+  scale = syn .options .scale;
   timestamps = timestamps.isPresent (tsvalOf (syn .options .timestamps));
   sack = syn .options .permitted;
 }

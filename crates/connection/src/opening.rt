@@ -1,7 +1,7 @@
 // Opening a record from the peer's SYN segment.
 ghost use mathlib.Core.Path.{_≡_};
 ghost use Rattle.connection.specs.Numbers.{openRefusalNumber};
-ghost use Rattle.connection.specs.Opening.{exceedsLimits, isNotSyn, isWrongAck, mssOf, openingFrom, peerOffers, recordFrom, recordWith, refusedOpening, scaleOf, shownOpen};
+ghost use Rattle.connection.specs.Opening.{exceedsLimits, isNotSyn, isWrongAck, mssOf, openingFrom, peerOffers, recordFrom, recordWith, refusedOpening, shownOpen};
 ghost use Rattle.connection.specs.Record.{blank};
 use super::Connection;
 use super::OpenAnswer;
@@ -12,12 +12,10 @@ use super::taking::ack_fields_of;
 use super::taking::tsval_of;
 use offers::InForce;
 use offers::Offers;
-use offers::Scale;
 use receive::Receive;
 use rto::Timer;
 use segment::Mss;
 use segment::Segment;
-use segment::WindowScale;
 use send::Send;
 use serial::Seq;
 use serial::Stamp;
@@ -35,23 +33,13 @@ fn mss(option: Mss) -> u16
     }
 }
 
-fn scale(option: WindowScale) -> Scale
-    ensures { λ r. ⌜ r ≡ scaleOf option ⌝ }
-{
-    match option {
-        WindowScale::Absent => Scale::Absent,
-        WindowScale::Shift(shift) => Scale::Shift(shift),
-    }
-}
-
 // What the peer's SYN offers.
 fn peer_offers(syn: Segment) -> Offers
     ensures { λ r. ⌜ r ≡ peerOffers syn ⌝ }
 {
     let options = syn.options;
-    let window_scale = options.scale;
+    let scale = options.scale;
     let pair = options.timestamps;
-    let scale = scale(window_scale);
     let timestamps = tsval_of(pair).is_present();
     let sack = options.permitted;
     Offers {

@@ -10,7 +10,7 @@ const MAX_SHIFT: u8 = 14;
 // The greatest window of an opening segment, which is not scaled.
 const MAX_FIRST_WINDOW: u32 = 65_535;
 
-// The window scale that a side offers.
+// The window scale that a side offers, or none; a shift above 14 too.
 pub enum Scale {
     Absent,
     Shift(u8),

@@ -2,13 +2,13 @@
 use crate::body;
 use crate::state_lines;
 use crate::text;
+use offers::Scale;
 use segment::Flags;
 use segment::Mss;
 use segment::Options;
 use segment::Reading;
 use segment::Segment;
 use segment::Timestamps;
-use segment::WindowScale;
 use serial::Seq;
 
 // Makes the call, and writes its answer.
@@ -83,10 +83,10 @@ fn mss_value(mss: Mss) {
     }
 }
 
-fn scale_value(scale: WindowScale) {
+fn scale_value(scale: Scale) {
     match scale {
-        WindowScale::Absent => text::absent(),
-        WindowScale::Shift(shift) => text::number(text::from_u8(shift)),
+        Scale::Absent => text::absent(),
+        Scale::Shift(shift) => text::number(text::from_u8(shift)),
     }
 }
 

@@ -10,6 +10,7 @@ use Rattle.serial.specs.Serial.{range}
 use Rattle.serial.specs.declared.Range.{Range}
 use Rattle.octets.specs.Octets.{bigEndian, numberAt}
 use Rattle.octets.proofs.ReadBack.{numberAt-bigEndian}
+use Rattle.offers.specs.declared.Scale.{Scale}
 use Rattle.segment.specs.Grammar.{Step, whole}
 use Rattle.segment.specs.Options.{Found, blockList, blocksFrom, blocksOf, faultAt, found, isFound, mssOf, nothing, oneToFour, optionOf, optionsOf, scaleOf, timestampsOf}
 use Rattle.segment.specs.Reading.{Answer, readAs, reading, segmentOf, stepsOf}
@@ -18,7 +19,6 @@ use Rattle.segment.specs.declared.Options.{Options}
 use Rattle.segment.specs.declared.SackBlocks.{SackBlocks}
 use Rattle.segment.specs.declared.Segment.{Segment}
 use Rattle.segment.specs.declared.Timestamps.{Timestamps}
-use Rattle.segment.specs.declared.WindowScale.{WindowScale}
 use Rattle.segment.proofs.Faults.{Among, RightLength, judged-only, mss, window-scale, sack-permitted, one-block, two-blocks, three-blocks, four-blocks, timestamps, second-time}
 use Rattle.segment.proofs.FoundOption.{first-option, nothing-if}
 use Rattle.segment.proofs.Numbers.{faultless}
@@ -69,7 +69,7 @@ module _ (s : List ℕ) (w : Segment) (e : reading s ≡ readAs w) where
       ∙ ap mssOf (is-option at (2 ∷ 4 ∷ bigEndian 2 n) mss m)
       ∙ ap Mss.Octets (numberAt-bigEndian 1 n [])
 
-  pub scale-value : (at shift : ℕ) → List·Memᴰ (whole at (3 ∷ 3 ∷ shift ∷ [])) (stepsOf s) → w .options .scale ≡ WindowScale.Shift shift
+  pub scale-value : (at shift : ℕ) → List·Memᴰ (whole at (3 ∷ 3 ∷ shift ∷ [])) (stepsOf s) → w .options .scale ≡ Scale.Shift shift
   unfolding optionsOf
   scale-value at shift m =
       ap (λ (o : Options). o .scale) options-are ∙ ap scaleOf (is-option at (3 ∷ 3 ∷ shift ∷ []) window-scale m)
@@ -116,7 +116,7 @@ module _ (s : List ℕ) (w : Segment) (e : reading s ≡ readAs w) where
   unfolding optionsOf
   no-mss none = ap (λ (o : Options). o .mss) options-are ∙ ap mssOf (is-none 2 none)
 
-  pub no-scale : (Among 3 (stepsOf s) → ⊥) → w .options .scale ≡ WindowScale.Absent
+  pub no-scale : (Among 3 (stepsOf s) → ⊥) → w .options .scale ≡ Scale.Absent
   unfolding optionsOf
   no-scale none = ap (λ (o : Options). o .scale) options-are ∙ ap scaleOf (is-none 3 none)
 

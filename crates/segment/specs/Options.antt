@@ -7,12 +7,12 @@ use lib.ListN.{getD, length}
 use Rattle.octets.specs.Octets.{numberAt}
 use Rattle.serial.specs.Serial.{range}
 use Rattle.serial.specs.declared.Range.{Range}
+use Rattle.offers.specs.declared.Scale.{Scale}
 use Rattle.segment.specs.Grammar.{Step, nop, end, whole, broken}
 use Rattle.segment.specs.declared.Mss.{Mss}
 use Rattle.segment.specs.declared.Options.{Options}
 use Rattle.segment.specs.declared.SackBlocks.{SackBlocks}
 use Rattle.segment.specs.declared.Timestamps.{Timestamps}
-use Rattle.segment.specs.declared.WindowScale.{WindowScale}
 
 -- whether a number stands in a list
 unfoldable pub standsIn : ℕ → List ℕ → Bool
@@ -112,9 +112,9 @@ abbrev pub mssOf : Found → Mss
 mssOf nothing = Mss.Absent
 mssOf (found at octets) = Mss.Octets (numberAt 2 octets 2)
 
-abbrev pub scaleOf : Found → WindowScale
-scaleOf nothing = WindowScale.Absent
-scaleOf (found at octets) = WindowScale.Shift (getD octets 2 0)
+abbrev pub scaleOf : Found → Scale
+scaleOf nothing = Scale.Absent
+scaleOf (found at octets) = Scale.Shift (getD octets 2 0)
 
 abbrev pub timestampsOf : Found → Timestamps
 timestampsOf nothing = Timestamps.Absent

@@ -10,6 +10,7 @@ ghost use mathlib.Core.Path.{_≡_};
 ghost use denote.Ref.{ptr};
 ghost use Rattle.segment.specs.Part.{IsPart};
 ghost use Rattle.segment.specs.Reading.{foundOption, numberOf, reading, shown};
+use offers::Scale;
 use rules::Listing;
 use serial::Range;
 use serial::Seq;
@@ -39,12 +40,6 @@ pub enum Mss {
     Octets(u16),
 }
 
-// The window scale option, as the peer wrote it: a shift above 14 too.
-pub enum WindowScale {
-    Absent,
-    Shift(u8),
-}
-
 // TSval and TSecr, in this order.
 pub enum Timestamps {
     Absent,
@@ -63,7 +58,8 @@ pub enum SackBlocks {
 // What the options of a segment say.
 pub struct Options {
     pub mss: Mss,
-    pub scale: WindowScale,
+    // As the peer wrote it: a shift above 14 too.
+    pub scale: Scale,
     // Whether SACK-permitted is among them.
     pub permitted: bool,
     pub blocks: SackBlocks,

@@ -9,11 +9,11 @@ use super::Mss;
 use super::Options;
 use super::SackBlocks;
 use super::Timestamps;
-use super::WindowScale;
 use super::places::Places;
 use octets::read_u8;
 use octets::read_u16;
 use octets::read_u32;
+use offers::Scale;
 use serial::Range;
 use serial::Seq;
 use serial::Stamp;
@@ -44,13 +44,13 @@ fn mss(segment: &[u8], place: u8) -> Mss
     Mss::Octets(read_u16(segment, place as usize + 2))
 }
 
-fn scale(segment: &[u8], place: u8) -> WindowScale
+fn scale(segment: &[u8], place: u8) -> Scale
     ensures { λ r. ⌜ ((f : Found) → place ≡ placeOf f → StandsIf (now (segment .entry)) 3 3 f → r ≡ scaleOf f) ⌝ }
 {
     if place == 0 {
-        return WindowScale::Absent;
+        return Scale::Absent;
     }
-    WindowScale::Shift(read_u8(segment, place as usize + 2))
+    Scale::Shift(read_u8(segment, place as usize + 2))
 }
 
 fn timestamps(segment: &[u8], place: u8) -> Timestamps

@@ -9,13 +9,13 @@ use lib.ListN.{length}
 use Rattle.serial.specs.declared.Range.{Range}
 use Rattle.octets.specs.Octets.{bigEndian, numberAt}
 use Rattle.octets.proofs.ReadBack.{numberAt-bigEndian}
+use Rattle.offers.specs.declared.Scale.{Scale}
 use Rattle.segment.specs.Grammar.{Step}
 use Rattle.segment.specs.Options.{Found, blocksOf, found, isFound, isRepeated, isWrongLength, lengthsOf, mssOf, nothing, oneToFour, optionOf, optionsOf, scaleOf, standsIn, timestampsOf}
 use Rattle.segment.specs.declared.Mss.{Mss}
 use Rattle.segment.specs.declared.Options.{Options}
 use Rattle.segment.specs.declared.SackBlocks.{SackBlocks}
 use Rattle.segment.specs.declared.Timestamps.{Timestamps}
-use Rattle.segment.specs.declared.WindowScale.{WindowScale}
 use Rattle.segment.proofs.OptionsRead.{Reads, option-read}
 use Rattle.writer.specs.Writing.{blocksOfList, blocksWritten, stampsWritten}
 use Rattle.writer.proofs.BlockLists.{sack-back}
@@ -25,7 +25,7 @@ use Rattle.writer.proofs.Lengths.{length-blocks}
 abbrev pub withMss : Options → Mss → Options
 withMss o x = record { mss = x; scale = o .scale; permitted = o .permitted; blocks = o .blocks; timestamps = o .timestamps }
 
-abbrev pub withScale : Options → WindowScale → Options
+abbrev pub withScale : Options → Scale → Options
 withScale o x = record { mss = o .mss; scale = x; permitted = o .permitted; blocks = o .blocks; timestamps = o .timestamps }
 
 abbrev pub withPermitted : Options → Bool → Options
@@ -56,9 +56,9 @@ module _ (before : List Step) where
   unfolding optionsOf isRepeated standsIn
   mss-new = not-found mssOf Mss.Absent (λ at octets e. let z : _≡_ {A = ℕ} 0 1 = cc in omega arith) (optionOf 2 before)
 
-  scale-new : optionsOf before .scale ≡ WindowScale.Absent → isRepeated before 3 ≡ false
+  scale-new : optionsOf before .scale ≡ Scale.Absent → isRepeated before 3 ≡ false
   unfolding optionsOf isRepeated standsIn
-  scale-new = not-found scaleOf WindowScale.Absent (λ at octets e. let z : _≡_ {A = ℕ} 0 1 = cc in omega arith) (optionOf 3 before)
+  scale-new = not-found scaleOf Scale.Absent (λ at octets e. let z : _≡_ {A = ℕ} 0 1 = cc in omega arith) (optionOf 3 before)
 
   permitted-new : optionsOf before .permitted ≡ false → isRepeated before 4 ≡ false
   unfolding optionsOf isRepeated standsIn
@@ -87,7 +87,7 @@ module _ {o : Options} {rest : List ℕ} {o′ : Options} where
       option-read 2 4 (bigEndian 2 n) (omega arith) refl refl (λ before said. mss-new before (rw said new))
       (subst (λ (x : ℕ). Reads (withMss o (Mss.Octets x)) rest o′) (sym (numberAt-bigEndian 1 n [])) then)
 
-  pub scale-read : (n : ℕ) → o .scale ≡ WindowScale.Absent → Reads (withScale o (WindowScale.Shift n)) rest o′ → Reads o (3 ∷ 3 ∷ n ∷ rest) o′
+  pub scale-read : (n : ℕ) → o .scale ≡ Scale.Absent → Reads (withScale o (Scale.Shift n)) rest o′ → Reads o (3 ∷ 3 ∷ n ∷ rest) o′
   unfolding isWrongLength lengthsOf standsIn
   scale-read n new then =
       option-read 3 3 (n ∷ []) (omega arith) refl refl (λ before said. scale-new before (rw said new)) then

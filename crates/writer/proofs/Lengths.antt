@@ -8,11 +8,11 @@ use lib.ListN.{length, length-append, length-take}
 use lib.Seq.{take-all}
 use Rattle.serial.specs.declared.Range.{Range}
 use Rattle.octets.specs.Octets.{bigEndian}
+use Rattle.offers.specs.declared.Scale.{Scale}
 use Rattle.segment.specs.Options.{blockList}
 use Rattle.segment.specs.declared.Mss.{Mss}
 use Rattle.segment.specs.declared.Options.{Options}
 use Rattle.segment.specs.declared.Timestamps.{Timestamps}
-use Rattle.segment.specs.declared.WindowScale.{WindowScale}
 use Rattle.writer.specs.Writing.{blockRoom, blocksWritten, fitting, headerWritten, mssWritten, optionsWritten, othersWritten, sackWritten, scaleWritten, timestampsWritten, written}
 use Rattle.writer.specs.declared.Header.{Header}
 
@@ -39,10 +39,10 @@ aligned-timestamps true Timestamps.Absent = record { whole = refl; most = omega 
 aligned-timestamps false (Timestamps.Pair value echoed) = record { whole = refl; most = omega arith }
 aligned-timestamps true (Timestamps.Pair value echoed) = record { whole = refl; most = omega arith }
 
-pub aligned-scale : (scale : WindowScale) → Aligned (scaleWritten scale) 4
+pub aligned-scale : (scale : Scale) → Aligned (scaleWritten scale) 4
 unfolding scaleWritten
-aligned-scale WindowScale.Absent = record { whole = refl; most = omega arith }
-aligned-scale (WindowScale.Shift n) = record { whole = refl; most = omega arith }
+aligned-scale Scale.Absent = record { whole = refl; most = omega arith }
+aligned-scale (Scale.Shift n) = record { whole = refl; most = omega arith }
 
 pub length-blocks : (bs : List Range) → length (blocksWritten bs) ≡ 8 * length bs
 unfolding blocksWritten bigEndian

@@ -10,11 +10,11 @@ use Rattle.serial.specs.declared.Range.{Range}
 use Rattle.serial.specs.declared.Stamp.{Stamp}
 use Rattle.octets.specs.Octets.{bigEndian, numberAt}
 use Rattle.octets.proofs.ReadBack.{length-bigEndian, numberAt-bigEndian, numberAt-within}
+use Rattle.offers.specs.declared.Scale.{Scale}
 use Rattle.segment.specs.Options.{blockList}
 use Rattle.segment.specs.declared.Mss.{Mss}
 use Rattle.segment.specs.declared.Options.{Options}
 use Rattle.segment.specs.declared.Timestamps.{Timestamps}
-use Rattle.segment.specs.declared.WindowScale.{WindowScale}
 use Rattle.writer.specs.Writing.{blockRoom, blocksWritten, fitting, headerWritten, mssWritten, optionsWritten, othersWritten, sackWritten, scaleWritten, timestampsWritten, written}
 use Rattle.writer.specs.declared.Header.{Header}
 use Rattle.writer.proofs.Lengths.{aligned-others, fitting-most, length-blocks}
@@ -41,13 +41,13 @@ unfolding timestampsWritten
 permitted-octets = refl
 
 -- 01 03 03 and the shift
-pub scale-octets : (n : ℕ) → scaleWritten (WindowScale.Shift n) ≡ 1 ∷ 3 ∷ 3 ∷ n ∷ []
+pub scale-octets : (n : ℕ) → scaleWritten (Scale.Shift n) ≡ 1 ∷ 3 ∷ 3 ∷ n ∷ []
 unfolding scaleWritten
 scale-octets n = refl
 
 -- an option that is not there has no octets
 pub none-octets : (mssWritten Mss.Absent ≡ []) × (timestampsWritten false Timestamps.Absent ≡ [])
-    × (scaleWritten WindowScale.Absent ≡ []) × (sackWritten [] ≡ [])
+    × (scaleWritten Scale.Absent ≡ []) × (sackWritten [] ≡ [])
 unfolding mssWritten timestampsWritten scaleWritten sackWritten
 none-octets = (refl, refl, refl, refl)
 

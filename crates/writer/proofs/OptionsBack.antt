@@ -6,12 +6,12 @@ use Prim.Native.Nat.{ℕ, _≤_}
 use native.Mathlib.Omega.{arith}
 use lib.ListN.{length}
 use Rattle.serial.specs.declared.Range.{Range}
+use Rattle.offers.specs.declared.Scale.{Scale}
 use Rattle.segment.specs.Options.{optionIn, optionsOf}
 use Rattle.segment.specs.declared.Mss.{Mss}
 use Rattle.segment.specs.declared.Options.{Options}
 use Rattle.segment.specs.declared.SackBlocks.{SackBlocks}
 use Rattle.segment.specs.declared.Timestamps.{Timestamps}
-use Rattle.segment.specs.declared.WindowScale.{WindowScale}
 use Rattle.segment.proofs.OptionsRead.{Reads, none-read, nop-read}
 use Rattle.writer.specs.Writing.{blocksOfList, fitting, mssWritten, optionsWritten, othersWritten, sackWritten, scaleWritten, timestampsWritten}
 use Rattle.writer.proofs.KindsRead.{mss-read, permitted-read, sack-read, scale-read, timestamps-read, withBlocks, withMss, withPermitted, withScale, withTimestamps}
@@ -24,10 +24,10 @@ module _ {o : Options} {rest : List ℕ} {o′ : Options} where
   mss-part Mss.Absent new then = subst (λ (x : Mss). Reads (withMss o x) rest o′) (sym new) then
   mss-part (Mss.Octets n) new then = mss-read n new then
 
-  scale-part : (scale : WindowScale) → o .scale ≡ WindowScale.Absent → Reads (withScale o scale) rest o′ → Reads o (scaleWritten scale ++ rest) o′
+  scale-part : (scale : Scale) → o .scale ≡ Scale.Absent → Reads (withScale o scale) rest o′ → Reads o (scaleWritten scale ++ rest) o′
   unfolding scaleWritten
-  scale-part WindowScale.Absent new then = subst (λ (x : WindowScale). Reads (withScale o x) rest o′) (sym new) then
-  scale-part (WindowScale.Shift n) new then = nop-read (scale-read n new then)
+  scale-part Scale.Absent new then = subst (λ (x : Scale). Reads (withScale o x) rest o′) (sym new) then
+  scale-part (Scale.Shift n) new then = nop-read (scale-read n new then)
 
   module _ (plain : o .permitted ≡ false) (new : o .timestamps ≡ Timestamps.Absent) where
     not-permitted : (t : Timestamps) → Reads (withTimestamps (withPermitted o false) t) rest o′ → Reads (withTimestamps o t) rest o′

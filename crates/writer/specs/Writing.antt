@@ -7,6 +7,7 @@ use lib.Dec.{ltb}
 use lib.ListN.{length, take}
 use Rattle.serial.specs.declared.Range.{Range}
 use Rattle.octets.specs.Octets.{bigEndian, stored}
+use Rattle.offers.specs.declared.Scale.{Scale}
 use Rattle.segment.specs.Options.{blockList, oneToFour}
 use Rattle.segment.specs.Reading.{lenOf}
 use Rattle.segment.specs.declared.Flags.{Flags}
@@ -15,7 +16,6 @@ use Rattle.segment.specs.declared.Options.{Options}
 use Rattle.segment.specs.declared.SackBlocks.{SackBlocks}
 use Rattle.segment.specs.declared.Segment.{Segment}
 use Rattle.segment.specs.declared.Timestamps.{Timestamps}
-use Rattle.segment.specs.declared.WindowScale.{WindowScale}
 use Rattle.writer.specs.declared.Header.{Header}
 use Rattle.writer.specs.declared.Writing.{Writing}
 
@@ -48,9 +48,9 @@ timestampsWritten false (Timestamps.Pair value echoed) = 1 ∷ 1 ∷ stampsWritt
 timestampsWritten true (Timestamps.Pair value echoed) = 4 ∷ 2 ∷ stampsWritten (value .0) (echoed .0)
 
 -- NOP, 03 03 and the shift
-unfoldable pub scaleWritten : WindowScale → List ℕ
-scaleWritten WindowScale.Absent = []
-scaleWritten (WindowScale.Shift n) = 1 ∷ 3 ∷ 3 ∷ n ∷ []
+unfoldable pub scaleWritten : Scale → List ℕ
+scaleWritten Scale.Absent = []
+scaleWritten (Scale.Shift n) = 1 ∷ 3 ∷ 3 ∷ n ∷ []
 
 -- blocks as left, right
 unfoldable pub blocksWritten : List Range → List ℕ

@@ -10,11 +10,11 @@ ghost use Rattle.writer.specs.Writing.{blocksWritten, fitting, mssWritte
 use octets::write_u8;
 use octets::write_u16;
 use octets::write_u32;
+use offers::Scale;
 use segment::Mss;
 use segment::Options;
 use segment::SackBlocks;
 use segment::Timestamps;
-use segment::WindowScale;
 use segment::kinds;
 use serial::Range;
 
@@ -86,13 +86,13 @@ fn write_stamps_start(octets: &mut [u8], at: usize, permitted: bool)
     }
 }
 
-fn write_scale(octets: &mut [u8], at: usize, scale: WindowScale) -> usize
+fn write_scale(octets: &mut [u8], at: usize, scale: Scale) -> usize
     requires { ⌜ at ≤ 36 ⌝ }
     ensures { λ r. ⌜ (now (octets .exit) ≡ sets (now (octets .entry)) at (scaleWritten scale)) × (r ≡ at + length (scaleWritten scale)) ⌝ }
 {
     match scale {
-        WindowScale::Absent => at,
-        WindowScale::Shift(n) => {
+        Scale::Absent => at,
+        Scale::Shift(n) => {
             write_four(octets, at, kinds::NOP, kinds::WINDOW_SCALE, 3, n);
             at + 4
         }

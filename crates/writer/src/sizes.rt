@@ -5,11 +5,11 @@ ghost use Prim.Native.Nat.{_≤_};
 ghost use lib.ListN.{length, take};
 ghost use Rattle.segment.specs.Options.{blockList};
 ghost use Rattle.writer.specs.Writing.{blockRoom, mssWritten, othersWritten, sackWritten, scaleWritten, timestampsWritten};
+use offers::Scale;
 use segment::Mss;
 use segment::Options;
 use segment::SackBlocks;
 use segment::Timestamps;
-use segment::WindowScale;
 use serial::Range;
 
 fn mss_size(mss: Mss) -> usize
@@ -30,12 +30,12 @@ fn timestamps_size(permitted: bool, timestamps: Timestamps) -> usize
     }
 }
 
-fn scale_size(scale: WindowScale) -> usize
+fn scale_size(scale: Scale) -> usize
     ensures { λ r. ⌜ r ≡ length (scaleWritten scale) ⌝ }
 {
     match scale {
-        WindowScale::Absent => 0,
-        WindowScale::Shift(_) => 4,
+        Scale::Absent => 0,
+        Scale::Shift(_) => 4,
     }
 }
 

@@ -4,9 +4,6 @@ use borrow.Author.Needs.{needs}
 use Rattle.connection.proofs.opening.peer_offers.Statement.{statement}
 use Rattle.connection.proofs.opening.peer_offers.Tie as tie
 
-scale-requires : tie.Need-scale-requires
-scale-requires c κs = search needs
-
 tsval-of-requires : tie.Need-tsval-of-requires
 tsval-of-requires c κs = search needs
 
@@ -14,7 +11,7 @@ is-present-requires : tie.Need-is-present-requires
 is-present-requires c κs = search needs
 
 returns : tie.Need-returns
-returns c = rw (c .before .before .scale .ensures, c .is-present .ensures, c .before .tsval-of .ensures)
+returns c = rw (c .is-present .ensures, c .before .tsval-of .ensures)
 
 pub peer-offers-spec : {M : Type 1} → statement M
-peer-offers-spec = tie.close (tie.spec scale-requires tsval-of-requires is-present-requires returns)
+peer-offers-spec = tie.close (tie.spec tsval-of-requires is-present-requires returns)
