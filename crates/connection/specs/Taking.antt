@@ -21,7 +21,7 @@ unfoldable pub sampleOf : Timestamping → ℕ → Timestamps → List Call
 sampleOf t clock Timestamps.Absent = []
 sampleOf t clock (Timestamps.Pair value echoed) = sample (timestamps.sampleAt t clock (echoed .0)) ∷ []
 
--- a new ACK with timestamps gives a sample: what a take feeds to the timer, one above 600,000 too, which the timer leaves out
+-- a new ACK with timestamps gives a sample: what a take feeds to the timer, one that E14 refuses too, which the timer leaves out
 unfoldable pub fedBy : Connection → ℕ → Segment → List Call
 fedBy k clock s =
     cond (k .timestamping .active && send.isNew (k .send) (s .ack .0)) (sampleOf (k .timestamping) clock (s .options .timestamps)) []
