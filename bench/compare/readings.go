@@ -22,13 +22,13 @@ func readByLibrary(replay string, segments [][]byte) []string {
 
 // readByScapy passes the segments to the script, each with a length of four octets before it.
 func readByScapy(script string, segments [][]byte) []string {
-	var lent bytes.Buffer
+	var input bytes.Buffer
 	for _, octets := range segments {
-		lent.Write(binary.BigEndian.AppendUint32(nil, uint32(len(octets))))
-		lent.Write(octets)
+		input.Write(binary.BigEndian.AppendUint32(nil, uint32(len(octets))))
+		input.Write(octets)
 	}
 	const debianPython = "/usr/bin/python3"
-	return linesFor(segments, lent.Bytes(), debianPython, script)
+	return linesFor(segments, input.Bytes(), debianPython, script)
 }
 
 // linesFor gives the lines that a program prints, which must be one for each segment.

@@ -22,7 +22,7 @@ const (
 )
 
 // The set is passed by value, so that C sees one pointer to plain octets.
-func lent(set segment.Set) C.struct_loops_set {
+func inC(set segment.Set) C.struct_loops_set {
 	return C.struct_loops_set{
 		first:  (*C.uint8_t)(unsafe.Pointer(&set.Octets[0])),
 		length: C.size_t(set.Length),
@@ -32,10 +32,10 @@ func lent(set segment.Set) C.struct_loops_set {
 
 // Run reads each segment of the set so many times, and gives the nanoseconds that all took.
 func (r Reader) Run(set segment.Set, rounds int) float64 {
-	return float64(C.loops_run(uint32(r), lent(set), C.size_t(rounds)))
+	return float64(C.loops_run(uint32(r), inC(set), C.size_t(rounds)))
 }
 
 // Sum reads each segment once, and adds up what is read.
 func (r Reader) Sum(set segment.Set) uint64 {
-	return uint64(C.loops_sum(uint32(r), lent(set)))
+	return uint64(C.loops_sum(uint32(r), inC(set)))
 }

@@ -18,9 +18,16 @@ use Rattle.segment.specs.declared.Segment.{Segment}
 use Rattle.segment.specs.declared.Timestamps.{Timestamps}
 use Rattle.timestamps.specs.Timestamps.{isMissing, isOld, outdated, valueBefore}
 use Rattle.connection.specs.declared.Connection.{Connection}
-use Rattle.connection.specs.Numbers.{Action, dropSilent, dropWithAck, reset}
+use Rattle.connection.specs.declared.Reason.{Reason}
+use Rattle.connection.specs.declared.Verdict.{Verdict}
+use Rattle.connection.specs.Numbers.{Action, dropSilent, dropWithAck, reset, take, verdictOf}
 use Rattle.connection.specs.Verdict.{Row, rows}
 use Rattle.connection.proofs.Table.{condition}
+
+-- what the code's verdicts say: "drop, silent" is Silent, and "drop, send ACK" is WithAck, whatever the reason inside
+pub verdicts-named : (verdictOf Verdict.Take ≡ record { number = 0; action = take }) × (verdictOf Verdict.Reset ≡ record { number = 25; action = reset })
+    × ((why : Reason) → verdictOf (Verdict.Silent why) .action ≡ dropSilent) × ((why : Reason) → verdictOf (Verdict.WithAck why) .action ≡ dropWithAck)
+verdicts-named = (refl, refl, (λ why. refl), λ why. refl)
 
 module _ (k : Connection) (clock : ℕ) (s : Segment) where
   abbrev Holds : ℕ → Type 0

@@ -1,17 +1,17 @@
 -- The table of verdicts: number n is given exactly when row n's condition holds and no earlier one does, and 0 when none holds; so a segment
--- that is taken makes each condition false. Assumes nothing.
+-- that is taken makes each condition false. Beside a row's number stands that row's answer. Assumes nothing.
 use mathlib.Core.Bool.{Bool, true, false, cond, not, _&&_, _||_, and-false, false≢true}
 use mathlib.Core.List.{List, [], _∷_, map}
 use mathlib.Core.Option.{some}
 use mathlib.Core.Path.{_≡_, refl, sym, ap, _∙_}
 use Prim.Native.Nat.{ℕ, _≤_, _<_}
 use lib.Dec.{eqb, ltb}
-use borrow.Author.Tests.{eqb-false, eqb-true, le-ltb, lt-ltb, ne-eqb, not-true}
+use borrow.Author.Tests.{eq-eqb, eqb-false, eqb-true, le-ltb, lt-ltb, ne-eqb, not-true}
 use Rattle.laws.proofs.Choices.{both-true, either, neither}
 use Rattle.segment.specs.Options.{standsIn}
 use Rattle.segment.specs.declared.Segment.{Segment}
 use Rattle.connection.specs.declared.Connection.{Connection}
-use Rattle.connection.specs.Numbers.{Decision, refuse, take}
+use Rattle.connection.specs.Numbers.{Action, Decision, refuse, take}
 use Rattle.connection.specs.Verdict.{Row, decided, firstHolds, isGiven, noneHolds, rows}
 use Rattle.connection.specs.Arriving.{Arrival, arrivingRead, isTake, judged, refusedWith, settled, takenBy, unchanged}
 use Rattle.connection.specs.Calls.{Incoming, arrived, fieldsOf}
@@ -72,6 +72,31 @@ given n table d = pick (eqb n 0) refl
     pick : (z : Bool) → eqb n 0 ≡ z → eqb (decided table .number) n ≡ cond z (noneHolds table) (firstHolds n table)
     pick true z = ap (λ x. eqb (decided table .number) x) (eqb-true n 0 z) ∙ none-given table d
     pick false z = number-given n z table d
+
+-- the answer of the row with a number, whatever the row's place; take where no row has it
+abbrev pub actionOf : ℕ → List Row → Action
+actionOf n [] = take
+actionOf n (r ∷ rs) = cond (eqb (r .number) n) (r .action) (actionOf n rs)
+
+action-given : (table : List Row) → fits table ≡ true → decided table .action ≡ actionOf (decided table .number) table
+action-given [] d = refl
+action-given (r ∷ rs) d = pick (r .holds) (action-given rs (fit .3))
+  where
+    fit : (eqb (r .number) 0 ≡ false) × (standsIn (r .number) (numbers rs) ≡ false) × (isTake (r .action) ≡ false) × (fits rs ≡ true)
+    fit = first-fits r rs d
+
+    other : eqb (r .number) (decided rs .number) ≡ false
+    other =
+        let later : eqb (decided rs .number) (r .number) ≡ false = number-given (r .number) (fit .0) rs (fit .3) ∙ absent (r .number) rs (fit .1) in
+        ne-eqb (r .number) (decided rs .number) (λ q. eqb-false (decided rs .number) (r .number) later (sym q))
+
+    here : (n : ℕ) (t : Bool) → eqb (r .number) n ≡ t → actionOf n (r ∷ rs) ≡ cond t (r .action) (actionOf n rs)
+    here n t e = ap (λ b. cond b (r .action) (actionOf n rs)) e
+
+    pick : (h : Bool) → decided rs .action ≡ actionOf (decided rs .number) rs
+        → cond h (decision r) (decided rs) .action ≡ actionOf (cond h (decision r) (decided rs) .number) (r ∷ rs)
+    pick true later = sym (here (r .number) true (eq-eqb (r .number) (r .number) refl))
+    pick false later = later ∙ sym (here (decided rs .number) false other)
 
 -- only where no row holds is a segment taken
 taken-last : (table : List Row) → fits table ≡ true → isTake (decided table .action) ≡ true → decided table ≡ record { number = 0; action = take }
@@ -142,6 +167,17 @@ module _ (k : Connection) (clock : ℕ) (s : Segment) where
     unfolding arrivingRead
     number-of-row timely n =
         rw (arrived-by-fields k clock i s is, le-ltb clock (k .timestamping .since) timely, judged-decision) (given n (rows k clock s) table-fits)
+
+    -- beside a number stands the answer of its row
+    pub action-of-row : k .timestamping .since ≤ clock
+        → arrived k clock i .decision .action ≡ actionOf (arrived k clock i .decision .number) (rows k clock s)
+    unfolding arrivingRead
+    action-of-row timely =
+        let is-judged : arrived k clock i ≡ judged k clock s =
+        arrived-by-fields k clock i s is ∙ ap (λ b. cond b (unchanged k (refusedWith 8)) (judged k clock s)) (le-ltb clock (k .timestamping .since) timely) in
+        let decides : arrived k clock i .decision ≡ decided (rows k clock s) = ap (λ (a : Arrival). a .decision) is-judged ∙ judged-decision in
+        ap (λ (d : Decision). d .action) decides ∙ action-given (rows k clock s) table-fits
+        ∙ ap (λ (d : Decision). actionOf (d .number) (rows k clock s)) (sym decides)
 
     -- E8: clock below the time at which TS.Recent was last set
     pub late-refused : clock < k .timestamping .since → arrived k clock i .decision ≡ record { number = 8; action = refuse }

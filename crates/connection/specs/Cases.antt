@@ -22,6 +22,7 @@ use Rattle.send.specs.Send as send
 use Rattle.timestamps.specs.Timestamps as timestamps
 use Rattle.connection.specs.declared.Connection.{Connection}
 use Rattle.connection.specs.declared.Setup.{Setup}
+use Rattle.connection.specs.Numbers.{Action, Decision, dropSilent, dropWithAck, refuse, reset, take}
 use Rattle.connection.specs.Opening.{OpeningAnswer, isNotSyn, isWrongAck, opening, openingFrom, recordFrom, recordWith}
 use Rattle.connection.specs.Verdict.{rows}
 use Rattle.connection.specs.Taking.{fedBy, recordAfter, sampleOf}
@@ -86,34 +87,42 @@ full = holding (6700 ∷ 6600 ∷ 6500 ∷ 6400 ∷ 6300 ∷ 6200 ∷ 6100 ∷ 6
 abbrev ten : ℕ → Call
 ten seq = arrival 100 (unread (octets seq 1000 16 9 (stamps 50 0) 10))
 
--- the number of an arrival at clock 150
-abbrev at : Connection → ℕ → ℕ → ℕ → List ℕ → ℕ → ℕ
-at k seq ack flags options payload = arriving k 150 (octets seq ack flags 9 options payload) .decision .number
+-- an arrival at clock 150
+abbrev at : Connection → ℕ → ℕ → ℕ → List ℕ → ℕ → Decision
+at k seq ack flags options payload = arriving k 150 (octets seq ack flags 9 options payload) .decision
 
+abbrev decision : ℕ → Action → Decision
+decision number action = record { number = number; action = action }
+
+pub arrivals : List (Decision × Decision)
+arrivals =
+    (arriving base 99 [] .decision, decision 1 refuse)
+    ∷ (arriving base 99 (replicate 65536 80) .decision, decision 2 refuse)
+    ∷ (arriving base 99 (replicate 20 0) .decision, decision 3 refuse)
+    ∷ (at base 5000 1001 16 (8 ∷ 9 ∷ 0 ∷ 0 ∷ []) 0, decision 4 refuse)
+    ∷ (at base 5000 1001 16 (2 ∷ 3 ∷ 0 ∷ 0 ∷ []) 0, decision 5 refuse)
+    ∷ (at base 5000 1001 16 (4 ∷ 2 ∷ 4 ∷ 2 ∷ []) 0, decision 6 refuse)
+    ∷ (arriving base 99 (octets 5000 1001 16 9 (stamps 60 0) 0) .decision, decision 8 refuse)
+    ∷ (at base 5000 1001 16 [] 0, decision 21 dropSilent)
+    ∷ (at base 5000 1001 16 (stamps 49 0) 0, decision 22 dropWithAck)
+    ∷ (at base 4999 1001 4 (stamps 60 0) 0, decision 23 dropSilent)
+    ∷ (at base 4999 1001 16 (stamps 60 0) 0, decision 24 dropWithAck)
+    ∷ (at base 5000 1001 4 (stamps 60 0) 0, decision 25 reset)
+    ∷ (at base 5001 1001 4 (stamps 60 0) 0, decision 26 dropWithAck)
+    ∷ (at base 5000 1001 2 (stamps 60 0) 0, decision 27 dropWithAck)
+    ∷ (at base 5000 1001 0 (stamps 60 0) 0, decision 28 dropSilent)
+    ∷ (at base 5000 1002 16 (stamps 60 0) 0, decision 29 dropWithAck)
+    ∷ (at full 6800 1001 16 (stamps 60 0) 10, decision 30 dropWithAck)
+    ∷ (at base 5000 1001 16 (stamps 60 0) 10, decision 0 take)
+    ∷ []
+
+-- openings, octets sent, a new window
 pub numbers : List (ℕ × ℕ)
 numbers =
     (opens 65535 0 2 .number, 0)
     ∷ (opens 65536 0 2 .number, 9)
     ∷ (opens 65535 0 16 .number, 10)
     ∷ (opens 65535 1000 18 .number, 11)
-    ∷ (arriving base 99 [] .decision .number, 1)
-    ∷ (arriving base 99 (replicate 65536 80) .decision .number, 2)
-    ∷ (arriving base 99 (replicate 20 0) .decision .number, 3)
-    ∷ (at base 5000 1001 16 (8 ∷ 9 ∷ 0 ∷ 0 ∷ []) 0, 4)
-    ∷ (at base 5000 1001 16 (2 ∷ 3 ∷ 0 ∷ 0 ∷ []) 0, 5)
-    ∷ (at base 5000 1001 16 (4 ∷ 2 ∷ 4 ∷ 2 ∷ []) 0, 6)
-    ∷ (arriving base 99 (octets 5000 1001 16 9 (stamps 60 0) 0) .decision .number, 8)
-    ∷ (at base 5000 1001 16 [] 0, 21)
-    ∷ (at base 5000 1001 16 (stamps 49 0) 0, 22)
-    ∷ (at base 4999 1001 4 (stamps 60 0) 0, 23)
-    ∷ (at base 4999 1001 16 (stamps 60 0) 0, 24)
-    ∷ (at base 5000 1001 4 (stamps 60 0) 0, 25)
-    ∷ (at base 5001 1001 4 (stamps 60 0) 0, 26)
-    ∷ (at base 5000 1001 2 (stamps 60 0) 0, 27)
-    ∷ (at base 5000 1001 0 (stamps 60 0) 0, 28)
-    ∷ (at base 5000 1002 16 (stamps 60 0) 0, 29)
-    ∷ (at full 6800 1001 16 (stamps 60 0) 10, 30)
-    ∷ (at base 5000 1001 16 (stamps 60 0) 10, 0)
     ∷ (sent base 9 .number, 12)
     ∷ (windowOpened base 65534 .number, 13)
     ∷ []
@@ -122,11 +131,12 @@ numbers =
 abbrev pub timed : List Call
 timed = arrival 150 (unread (octets 5000 1001 16 9 (stamps 60 100) 0)) ∷ []
 
-pub cases : (map (λ c. c .0) numbers ≡ map (λ c. c .1) numbers)
+pub cases : (map (λ c. c .0) arrivals ≡ map (λ c. c .1) arrivals)
+    × (map (λ c. c .0) numbers ≡ map (λ c. c .1) numbers)
     × (opens 65535 0 2 .connection ≡ base)
     × (run base (ten 6000 ∷ ten 6100 ∷ ten 6200 ∷ ten 6300 ∷ ten 6400 ∷ ten 6500 ∷ ten 6600 ∷ ten 6700 ∷ []) ≡ full)
     × (timerCalls base timed ≡ rto.sample 57 ∷ [])
-unfolding numbers distanceOf offsetOf bigEndian numberAt exceedLimits inForce shiftsInForce heldOf isOutOfOrder joined leftOf meets noRoom
+unfolding arrivals numbers distanceOf offsetOf bigEndian numberAt exceedLimits inForce shiftsInForce heldOf isOutOfOrder joined leftOf meets noRoom
     rangeOf rangesAfter rangesOf rightOf taking.holding taking.taken receive.acceptable receive.isWindowRefused receive.lacksRoom
     receive.newPart receive.opened receive.windowOpened isBroken padding paddingRule faultAt faultIn isRepeated isWrongLength lengthsOf
     oneToFour optionIn optionsOf standsIn optionsRead reading segmentOf send.opened send.isNew send.acknowledged send.isCurrent send.isLater
@@ -134,10 +144,10 @@ unfolding numbers distanceOf offsetOf bigEndian numberAt exceedLimits inForce sh
     timestamps.opened timestamps.isOld timestamps.isMissing timestamps.outdated timestamps.valueBefore timestamps.isRecorded
     timestamps.replacesRecent timestamps.taken rows fedBy recordAfter sampleOf arriving arrivingRead judged settled takenBy sent
     windowOpened Option·elim
-cases = (refl, refl, refl, refl)
+cases = (refl, refl, refl, refl, refl)
 
 pub base-opened : Opened base
-base-opened = record { own = own 65535; clock = 100; syn = unread (octets 4999 0 2 9 (stamps 50 0) 0); opens = cases .1 }
+base-opened = record { own = own 65535; clock = 100; syn = unread (octets 4999 0 2 9 (stamps 50 0) 0); opens = cases .2 }
 
 pub timed-feeds : timerCalls base timed ≡ rto.sample 57 ∷ []
-timed-feeds = cases .3
+timed-feeds = cases .4

@@ -45,6 +45,11 @@ unfolding opened
 opened-within nxt window shift small most =
     record { nxt-is = refl; window-is = omega arith; shift-is = omega arith; acked-is = refl; none-held = ranges-held [] }
 
+-- and those above as 65,535 and as 14
+pub opened-cut : (nxt window shift : ℕ) → (65535 ≤ window → opened nxt window shift .window ≡ 65535) × (14 ≤ shift → opened nxt window shift .shift ≡ 14)
+unfolding opened
+opened-cut nxt window shift = (λ large. omega arith, λ large. omega arith)
+
 -- opening the window sets the receive window to the new one, and changes nothing else
 pub record Widens (r : Receive) (window : ℕ) (t : Receive) : Type 0 where
   pub window-is : t .window ≡ window

@@ -1,7 +1,8 @@
 -- Which segments are acceptable, and the new part of one: the numbers of the segment that lie in the window. Assumes nothing.
-use mathlib.Core.Bool.{Bool, true, false, cond, not, _&&_, _||_, and-false, false≢true}
+use mathlib.Core.Bool.{Bool, true, false, cond, not, _&&_, _||_, and-eq-true-iff, and-false, false≢true}
+use mathlib.Core.Logic.{_↔_}
 use mathlib.Core.Path.{_≡_, refl, sym, ap, _∙_}
-use Prim.Native.Nat.{ℕ, zero, suc, _+_, _-_, _^_, _≤_, _<_, min}
+use Prim.Native.Nat.{ℕ, zero, suc, _+_, _-_, _%_, _^_, _≤_, _<_, min}
 use native.Mathlib.Decide.{decLe, decLt}
 use native.Mathlib.Omega.{arith}
 use lib.Dec.{eqb, leb, ltb}
@@ -138,6 +139,12 @@ module _ (r : Receive) (seq len : ℕ) where
 
     pub outside : r .window ≤ first → r .window ≤ last → newPart r seq len ≡ emptyPart
     outside low high = not-acceptable (both-outside filled low high)
+
+  -- whether FIN lies in the part, of any SEQ and LEN: there is one, and the segment's last number lies in the part
+  pub fin-lies : (fin : Bool) → finInside r seq len fin ≡ true
+      ↔ (fin ≡ true) × (liesIn (newPart r seq len) (offsetOf (r .nxt .0) ((seq + (len - 1)) % 2 ^ 32)) ≡ true)
+  unfolding finInside
+  fin-lies fin = and-eq-true-iff fin (liesIn (newPart r seq len) last)
 
   -- LEN 0 has no FIN in its part
   pub no-fin : len ≡ 0 → (fin : Bool) → finInside r seq len fin ≡ false

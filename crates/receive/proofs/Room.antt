@@ -2,7 +2,7 @@
 -- nothing.
 use mathlib.Core.Bool.{Bool, true, false, not, _&&_, and-false, true≢false}
 use mathlib.Core.List.{List, _∷_}
-use mathlib.Core.Logic.{_⊎_, inl, inr, ⊎-map}
+use mathlib.Core.Logic.{_↔_, _⊎_, inl, inr, ⊎-map}
 use mathlib.Core.Path.{_≡_, refl, ap}
 use Prim.Native.Nat.{ℕ, _≤_, _<_}
 use native.Mathlib.Omega.{arith}
@@ -11,9 +11,11 @@ use lib.ListN.{length}
 use borrow.Author.Tests.{eq-eqb, eqb-false, eqb-true, le-ltb, leb-false, lt-leb, lt-ltb, ltb-true, not-true}
 use Rattle.serial.specs.declared.Range.{Range}
 use Rattle.receive.specs.declared.Part.{Part}
+use Rattle.receive.specs.declared.Receive.{Receive}
 use Rattle.laws.specs.Lists.{Each, any}
 use Rattle.laws.specs.Lists.Each.{none, more}
-use Rattle.receive.specs.Ranges.{isOutOfOrder, joined, leftOf, meets, noRoom, rangeOf, rangesAfter, rightOf, unmet}
+use Rattle.receive.specs.Ranges.{isOutOfOrder, joined, leftOf, meets, noRoom, rangeOf, rangesAfter, rangesOf, rightOf, unmet}
+use Rattle.receive.specs.Window.{lacksRoom, newPart}
 use Rattle.receive.specs.Internal.{withFirst}
 use Rattle.laws.proofs.Choices.{both-true, one-false}
 use Rattle.laws.proofs.Lists.{each-map, fewer-others, filter-others, length-filter, none-passes}
@@ -107,3 +109,11 @@ module _ (nxt : ℕ) (p : Part) (l : List Range) where
   pub near-leaves : isOutOfOrder p ≡ false → rangesAfter nxt p l ≡ l
   unfolding rangesAfter
   near-leaves near = rw near
+
+-- so of a segment: exactly where its new part has no room
+pub lacks-room-exactly : (r : Receive) (seq len : ℕ) → lacksRoom r seq len ≡ true ↔ Full (r .nxt .0) (newPart r seq len) (rangesOf (r .held))
+unfolding lacksRoom
+lacks-room-exactly r seq len =
+    let p : Part = newPart r seq len in
+    let l : List Range = rangesOf (r .held) in
+    (λ lacks. no-room-full (r .nxt .0) p l lacks, λ full. full-no-room (r .nxt .0) p l full)

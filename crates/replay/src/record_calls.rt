@@ -120,12 +120,12 @@ fn ports(body: &[u8]) -> Ports {
     }
 }
 
-fn written(k: Connection, ports: Ports, clock: u64, lent: &[u8]) -> Connection
+fn written(k: Connection, ports: Ports, clock: u64, given: &[u8]) -> Connection
     requires { ⌜ Sound k ⌝ }
     ensures { λ r. ⌜ Sound r ⌝ }
 {
     let mut space = body::space();
-    let buffer = body::copy(lent, &mut space);
+    let buffer = body::copy(given, &mut space);
     let answer = acknowledgment::write(k, ports, clock, buffer);
     let outcome = answer.outcome;
     acknowledgment_octets(outcome, buffer);

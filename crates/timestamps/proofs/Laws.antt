@@ -2,7 +2,7 @@
 use mathlib.Core.Bool.{Bool, true, false, and-false, not, or-true, _&&_, _||_}
 use mathlib.Core.Logic.{_↔_, _⊎_, inl, inr}
 use mathlib.Core.Path.{_≡_, refl, ap, _∙_}
-use Prim.Native.Nat.{ℕ, _+_, _-_, _^_, _<_}
+use Prim.Native.Nat.{ℕ, _+_, _-_, _%_, _^_, _<_}
 use native.Mathlib.Omega.{arith}
 use lib.IntN.{pos}
 use lib.Signed.{ltZ}
@@ -11,6 +11,7 @@ use Rattle.serial.specs.Serial.{isAtOrBefore, isBefore, movedBy, offsetOf, stam
 use Rattle.serial.specs.declared.Stamp.{Stamp}
 use Rattle.serial.proofs.Clock.{sample-back}
 use Rattle.serial.proofs.Distance.{distance-both-moved, neither-before}
+use Rattle.serial.proofs.Offset.{moved-offset, offset-below}
 use Rattle.timestamps.specs.declared.Timestamping.{Timestamping}
 use Rattle.timestamps.specs.declared.Tsval.{Tsval}
 use Rattle.timestamps.specs.Timestamps.{isMissing, isOld, isPresent, isRecorded, opened, outdated, replacesRecent, sampleAt, stampOf, taken, valueBefore}
@@ -38,7 +39,14 @@ module _ (offset clock : ℕ) where
   unfolding opened
   opened-not-in-force value = refl
 
--- R = (our timestamp - TSecr) mod 2^32: our timestamp that is echoed n ms later gives n
+-- R = (our timestamp - TSecr) mod 2^32, whatever was echoed: the one number below 2^32 that leads from TSecr to our timestamp
+pub sample-exactly : (t : Timestamping) (clock echoed : ℕ)
+    → (sampleAt t clock echoed < 2 ^ 32) × ((echoed + sampleAt t clock echoed) % 2 ^ 32 ≡ (clock + t .offset) % 2 ^ 32)
+sample-exactly t clock echoed =
+    let ours = stampAt clock (t .offset) in
+    (offset-below echoed ours, omega (arith, moved-offset echoed ours))
+
+-- our timestamp that is echoed n ms later gives n
 pub sample-echoed : (t : Timestamping) (clock n : ℕ) → n < 2 ^ 32 → sampleAt t (clock + n) (stampAt clock (t .offset)) ≡ n
 sample-echoed t clock n small = sample-back clock n (t .offset) small
 
