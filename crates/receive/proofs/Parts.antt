@@ -140,6 +140,51 @@ module _ (r : Receive) (seq len : ℕ) where
     pub outside : r .window ≤ first → r .window ≤ last → newPart r seq len ≡ emptyPart
     outside low high = not-acceptable (both-outside filled low high)
 
+    -- worked out from a start and an end, which is 0 where both ends lie outside
+    module _ (from to : ℕ) (starts : (first < r .window → from ≡ first) × (r .window ≤ first → from ≡ 0))
+        (ends : (last < r .window → to ≡ last + 1) × ((r .window ≤ last → first < r .window → to ≡ r .window) × (r .window ≤ last → r .window ≤ first → to ≡ 0)))
+      where
+        same-part : {p : Part} → newPart r seq len ≡ p → from ≡ p .from → to ≡ p .to → _≡_ {A = Part} record { from = from; to = to } (newPart r seq len)
+        same-part is f t = (λ i. record { from = f i; to = t i }) ∙ sym is
+
+        pub filled-part : from < to → _≡_ {A = Part} record { from = from; to = to } (newPart r seq len)
+        filled-part order = pick (decLt first (r .window)) (decLt last (r .window))
+          where
+            pick : Dec (first < r .window) → Dec (last < r .window) → _≡_ {A = Part} record { from = from; to = to } (newPart r seq len)
+            pick (yes low) (yes high) =
+                let start = starts .0 low in
+                let end = ends .0 high in
+                same-part (starts-inside low (omega arith)) start (omega arith)
+            pick (yes low) (no high) =
+                let start = starts .0 low in
+                let end = ends .1 .0 (omega arith) low in
+                same-part (starts-inside low (omega arith)) start (omega arith)
+            pick (no low) (yes high) =
+                let start = starts .1 (omega arith) in
+                let end = ends .0 high in
+                same-part (starts-before (omega arith) high) start end
+            pick (no low) (no high) =
+                let end = ends .1 .1 (omega arith) (omega arith) in
+                absurd (omega arith)
+
+        pub bare-part : to ≤ from → emptyPart ≡ newPart r seq len
+        bare-part order = pick (decLt first (r .window)) (decLt last (r .window))
+          where
+            pick : Dec (first < r .window) → Dec (last < r .window) → emptyPart ≡ newPart r seq len
+            pick (yes low) (yes high) =
+                let start = starts .0 low in
+                let end = ends .0 high in
+                sym (ends-first low (omega arith))
+            pick (yes low) (no high) =
+                let start = starts .0 low in
+                let end = ends .1 .0 (omega arith) low in
+                absurd (omega arith)
+            pick (no low) (yes high) =
+                let start = starts .1 (omega arith) in
+                let end = ends .0 high in
+                absurd (omega arith)
+            pick (no low) (no high) = sym (outside (omega arith) (omega arith))
+
   -- whether FIN lies in the part, of any SEQ and LEN: there is one, and the segment's last number lies in the part
   pub fin-lies : (fin : Bool) → finInside r seq len fin ≡ true
       ↔ (fin ≡ true) × (liesIn (newPart r seq len) (offsetOf (r .nxt .0) ((seq + (len - 1)) % 2 ^ 32)) ≡ true)

@@ -106,18 +106,10 @@ impl Receive {
         }
         let first = seq.offset(self.nxt);
         let last = window::last(self.nxt, seq, len);
-        if first < self.window {
-            if last < first {
-                return Part { from: 0, to: 0 };
-            }
-            let to = window::end(last, self.window);
-            return Part { from: first, to };
-        }
-        if last < self.window {
-            return Part {
-                from: 0,
-                to: last + 1,
-            };
+        let from = window::start(first, self.window);
+        let to = window::end(first, last, self.window);
+        if from < to {
+            return Part { from, to };
         }
         Part { from: 0, to: 0 }
     }

@@ -1,8 +1,9 @@
--- The ways out are the cases of `newPart`. Assumes nothing.
-use mathlib.Core.Path.{sym}
+-- By whether the first offset and the last one lie in the window: the cases of `newPart`. Assumes nothing.
+use mathlib.Core.Path.{sym, ap, _∙_}
+use Prim.Native.Nat.{ℕ, _+_}
 use native.Mathlib.Omega.{arith}
 use borrow.Author.Needs.{needs}
-use Rattle.receive.proofs.Parts.{ends-first, nothing-sent, outside, starts-before, starts-inside}
+use Rattle.receive.proofs.Parts.{bare-part, filled-part, nothing-sent}
 use Rattle.receive.proofs.Receive.new_part.Statement.{statement}
 use Rattle.receive.proofs.Receive.new_part.Tie as tie
 
@@ -17,60 +18,34 @@ offset-requires c κs = search needs
 last-requires : tie.Need-last-requires
 last-requires c κs = search needs
 
-returns-2 : tie.Need-returns-2
-returns-2 c =
-    let last = c .before .before .before in
-    let first = last .before in
-    let a = first .before .before .args in
-    let is-first = first .offset .ensures in
-    let is-last = last .last .ensures in
-    sym (ends-first (a .self) (a .seq .0) (a .len) (omega arith) (omega arith) (omega arith))
+start-requires : tie.Need-start-requires
+start-requires c κs = search needs
 
 end-requires : tie.Need-end-requires
 end-requires c κs = search needs
 
+returns-2 : tie.Need-returns-2
+returns-2 c =
+    let end = c .before .end .ensures in
+    let start = c .before .before .start .ensures in
+    let is-last = c .before .before .before .last .ensures in
+    let is-first = c .before .before .before .before .offset .ensures in
+    let a = c .before .before .before .before .before .before .args in
+    filled-part (a .self) (a .seq .0) (a .len) (omega arith) _ _ (λ h. start .0 (omega arith) ∙ is-first, λ h. start .1 (omega arith))
+    (λ h. end .0 (omega arith) ∙ ap (λ (n : ℕ). n + 1) is-last, (λ h g. end .1 .0 (omega arith) (omega arith), λ h g. end .1 .1 (omega arith) (omega arith)))
+    (omega arith)
+
 returns-3 : tie.Need-returns-3
 returns-3 c =
-    let last = c .before .before .before .before in
-    let first = last .before in
-    let a = first .before .before .args in
-    let is-first = first .offset .ensures in
-    let is-last = last .last .ensures in
-    rw (c .end .ensures, last .last .ensures, first .offset .ensures)
-    (sym (starts-inside (a .self) (a .seq .0) (a .len) (omega arith) (omega arith) (omega arith)))
-
-add-t9 : tie.Need-add-t9
-add-t9 c = search needs
-
-returns-4 : tie.Need-returns-4
-returns-4 c =
-    let last = c .before .before .before .before in
-    let first = last .before in
-    let a = first .before .before .args in
-    let is-first = first .offset .ensures in
-    let is-last = last .last .ensures in
-    rw (last .last .ensures)
-    (sym (starts-before (a .self) (a .seq .0) (a .len) (omega arith) (omega arith) (omega arith)))
-
-returns-5 : tie.Need-returns-5
-returns-5 c =
-    let last = c .before .before .before .before in
-    let first = last .before in
-    let a = first .before .before .args in
-    let is-first = first .offset .ensures in
-    let is-last = last .last .ensures in
-    sym (outside (a .self) (a .seq .0) (a .len) (omega arith) (omega arith) (omega arith))
+    let end = c .before .end .ensures in
+    let start = c .before .before .start .ensures in
+    let is-last = c .before .before .before .last .ensures in
+    let is-first = c .before .before .before .before .offset .ensures in
+    let a = c .before .before .before .before .before .before .args in
+    bare-part (a .self) (a .seq .0) (a .len) (omega arith) _ _ (λ h. start .0 (omega arith) ∙ is-first, λ h. start .1 (omega arith))
+    (λ h. end .0 (omega arith) ∙ ap (λ (n : ℕ). n + 1) is-last, (λ h g. end .1 .0 (omega arith) (omega arith), λ h g. end .1 .1 (omega arith) (omega arith)))
+    (omega arith)
 
 pub new-part-spec : {M : Type 1} → statement M
 new-part-spec =
-    tie.close
-    (tie.spec
-    returns
-    offset-requires
-    last-requires
-    returns-2
-    end-requires
-    returns-3
-    add-t9
-    returns-4
-    returns-5)
+    tie.close (tie.spec returns offset-requires last-requires start-requires end-requires returns-2 returns-3)
