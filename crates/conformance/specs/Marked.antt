@@ -47,8 +47,8 @@ pub data Fact : Type 0 where
   ranges : List Range → Fact
 
 -- the fields of a segment that the send side takes: SEQ, ACK, window
-ackFieldsOf : ℕ → ℕ → ℕ → AckFields
-ackFieldsOf seq ack window = record { seq = record { 0 = seq }; ack = record { 0 = ack }; window = window }
+sendFields : ℕ → ℕ → ℕ → AckFields
+sendFields seq ack window = record { seq = record { 0 = seq }; ack = record { 0 = ack }; window = window }
 
 -- window scaling offered with this shift, and nothing else
 scaling : ℕ → Offers
@@ -91,7 +91,7 @@ worked M2 = integer (distanceOf 0 (2 ^ 31)) ∷ []
 worked M3 = integer (distanceOf 0 (2 ^ 31 - 1)) ∷ []
 -- SND.WND after a segment with window 65,535, where the send shift is 14; then whether it is below 2^30
 worked M4 =
-    let window = send.taken (send.opened 1000 14 (ackFieldsOf 4999 0 8192) false) (ackFieldsOf 5000 1001 65535) .window in
+    let window = send.taken (send.opened 1000 14 (sendFields 4999 0 8192) false) (sendFields 5000 1001 65535) .window in
     number window ∷ holds (ltb window (2 ^ 30)) ∷ []
 -- the send shift in force: we offer 7, the peer 15
 worked M5 = number (inForce (scaling 7) (scaling 15) .shifts .send) ∷ []
@@ -130,7 +130,7 @@ paper M12 = number 256032 ∷ number 96064 ∷ number 2502 ∷ []
 -- M10 is computed segment by segment, since nothing is shared within one computation: this is the record after the segment at WL1, which
 -- holds ranges of 500 numbers from these on. Whoever unfolds it unfolds all that the cases are computed with.
 after : List ℕ → ℕ → Connection
-unfolding ackFieldsOf scaling segment at own opened permitted optionOctets distanceOf offsetOf bigEndian numberAt Option·elim
+unfolding sendFields scaling segment at own opened permitted optionOctets distanceOf offsetOf bigEndian numberAt Option·elim
     isBroken padding paddingRule options.faultAt options.faultIn options.isRepeated options.isWrongLength options.lengthsOf
     options.oneToFour options.optionIn options.optionsOf options.standsIn optionsRead reading segmentOf exceedLimits inForce shiftsInForce
     heldOf isOutOfOrder joined leftOf meets noRoom rangeOf rangesAfter rangesOf rightOf taking.advanced taking.holding taking.taken
@@ -140,27 +140,8 @@ unfolding ackFieldsOf scaling segment at own opened permitted optionOctets dista
     writing.headerWritten writing.mssWritten writing.timestampsWritten writing.scaleWritten writing.blocksWritten writing.sackWritten
     writing.othersWritten writing.fitting writing.optionsWritten writing.written writing.blocksOfList writing.writing ack.ownTimestamps
     ack.ownBlocks ack.ownOptions ack.acknowledging
-after lefts wl1 = record {
-  receive = record {
-    nxt = record { 0 = 5500 };
-    window = 65035;
-    shift = 0;
-    acked = record { 0 = 5000 };
-    held = heldOf (map (λ left. range left (left + 500)) lefts);
-  };
-  send = record {
-    una = record { 0 = 1000 };
-    nxt = record { 0 = 1001 };
-    window = 9;
-    shift = 0;
-    wl1 = record { 0 = wl1 };
-    wl2 = record { 0 = 1000 };
-  };
-  timestamping = record { active = false; recent = record { 0 = 0 }; since = 0; offset = 0 };
-  sack = false;
-  mss = 536;
-  timer = newTimer;
-}
+after lefts wl1 =
+    cases.recordHolding 5500 65035 500 lefts wl1 (record { active = false; recent = record { 0 = 0 }; since = 0; offset = 0 })
 
 steps : (called (opened []) (at 5000 500) ≡ after [] 5000)
     × (called (after [] 5000) (at 6000 500) ≡ after (6000 ∷ []) 6000)

@@ -20,6 +20,7 @@ use Rattle.segment.specs.Options.{faultAt, faultIn, isRepeated, isWrongLength, 
 use Rattle.segment.specs.Reading.{optionsRead, reading, segmentOf}
 use Rattle.send.specs.Send as send
 use Rattle.timestamps.specs.Timestamps as timestamps
+use Rattle.timestamps.specs.declared.Timestamping.{Timestamping}
 use Rattle.connection.specs.declared.Connection.{Connection}
 use Rattle.connection.specs.declared.Setup.{Setup}
 use Rattle.connection.specs.Numbers.{Action, Decision, dropSilent, dropWithAck, refuse, reset, take}
@@ -53,15 +54,16 @@ own window = record {
 abbrev opens : ℕ → ℕ → ℕ → OpeningAnswer
 opens window ack flags = opening (own window) 100 (octets 4999 ack flags 9 (stamps 50 0) 0)
 
--- the record so opened, where ten octets came from each of these numbers on, the newest first, and WL1
-abbrev holding : List ℕ → ℕ → Connection
-holding lefts wl1 = record {
+-- a record without scaling, with one octet outstanding: RCV.NXT and the window there, ranges of so many numbers from these on, the newest
+-- first, WL1, and the timestamps. Last.ACK.sent is 5,000.
+abbrev pub recordHolding : ℕ → ℕ → ℕ → List ℕ → ℕ → Timestamping → Connection
+recordHolding nxt window size lefts wl1 stamping = record {
   receive = record {
-    nxt = record { 0 = 5000 };
-    window = 65535;
+    nxt = record { 0 = nxt };
+    window = window;
     shift = 0;
     acked = record { 0 = 5000 };
-    held = heldOf (map (λ left. range left (left + 10)) lefts);
+    held = heldOf (map (λ left. range left (left + size)) lefts);
   };
   send = record {
     una = record { 0 = 1000 };
@@ -71,11 +73,15 @@ holding lefts wl1 = record {
     wl1 = record { 0 = wl1 };
     wl2 = record { 0 = 1000 };
   };
-  timestamping = record { active = true; recent = record { 0 = 50 }; since = 100; offset = 7 };
+  timestamping = stamping;
   sack = false;
   mss = 536;
   timer = newTimer;
 }
+
+-- the record so opened, where ten octets came from each of these numbers on, the newest first, and WL1
+abbrev holding : List ℕ → ℕ → Connection
+holding lefts wl1 = recordHolding 5000 65535 10 lefts wl1 (record { active = true; recent = record { 0 = 50 }; since = 100; offset = 7 })
 
 abbrev pub base : Connection
 base = holding [] 4999

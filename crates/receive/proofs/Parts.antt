@@ -147,7 +147,7 @@ module _ (r : Receive) (seq len : ℕ) where
         same-part : {p : Part} → newPart r seq len ≡ p → from ≡ p .from → to ≡ p .to → _≡_ {A = Part} record { from = from; to = to } (newPart r seq len)
         same-part is f t = (λ i. record { from = f i; to = t i }) ∙ sym is
 
-        pub filled-part : from < to → _≡_ {A = Part} record { from = from; to = to } (newPart r seq len)
+        filled-part : from < to → _≡_ {A = Part} record { from = from; to = to } (newPart r seq len)
         filled-part order = pick (decLt first (r .window)) (decLt last (r .window))
           where
             pick : Dec (first < r .window) → Dec (last < r .window) → _≡_ {A = Part} record { from = from; to = to } (newPart r seq len)
@@ -167,7 +167,7 @@ module _ (r : Receive) (seq len : ℕ) where
                 let end = ends .1 .1 (omega arith) (omega arith) in
                 absurd (omega arith)
 
-        pub bare-part : to ≤ from → emptyPart ≡ newPart r seq len
+        bare-part : to ≤ from → emptyPart ≡ newPart r seq len
         bare-part order = pick (decLt first (r .window)) (decLt last (r .window))
           where
             pick : Dec (first < r .window) → Dec (last < r .window) → emptyPart ≡ newPart r seq len
@@ -184,6 +184,9 @@ module _ (r : Receive) (seq len : ℕ) where
                 let end = ends .0 high in
                 absurd (omega arith)
             pick (no low) (no high) = sym (outside (omega arith) (omega arith))
+
+        pub worked-out : (from < to → _≡_ {A = Part} record { from = from; to = to } (newPart r seq len)) × (to ≤ from → emptyPart ≡ newPart r seq len)
+        worked-out = (filled-part, bare-part)
 
   -- whether FIN lies in the part, of any SEQ and LEN: there is one, and the segment's last number lies in the part
   pub fin-lies : (fin : Bool) → finInside r seq len fin ≡ true
