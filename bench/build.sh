@@ -56,10 +56,11 @@ compile_lwip() {
 build_readers() {
     mkdir -p "$built/objects"
     compile_object reader "${warnings[@]}"
+    compile_object distance "${warnings[@]}"
     compile_object loops "${warnings[@]}" -I"$gateway"
     compile_lwip
     rm -f "$built/libreaders.a"
-    quietly ar rcs "$built/libreaders.a" "$built"/objects/{reader,loops,lwip_reader}.o
+    quietly ar rcs "$built/libreaders.a" "$built"/objects/{reader,distance,loops,lwip_reader}.o
     quietly objcopy --set-section-alignment ".text.*=$line" "$library" "$built/libgateway.a"
 }
 

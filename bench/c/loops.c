@@ -2,13 +2,16 @@
 #define _POSIX_C_SOURCE 199309L
 #include "loops.h"
 
+#include <string.h>
 #include <time.h>
 
+#include "distance.h"
 #include "lwip.h"
 #include "noppalerk.h"
 #include "reader.h"
 
 typedef uint64_t round_function(const struct loops_set *set);
+typedef int32_t distance_function(uint32_t from, uint32_t to);
 
 static inline const uint8_t *segment(const struct loops_set *set, size_t i)
 {
@@ -68,11 +71,44 @@ static uint64_t lwip(const struct loops_set *set)
     return sum;
 }
 
+struct pair {
+    uint32_t from, to;
+};
+
+static inline struct pair pair(const struct loops_set *set, size_t i)
+{
+    struct pair numbers;
+    memcpy(&numbers, set->first + i * set->length, sizeof numbers);
+    return numbers;
+}
+
+static inline uint64_t distance_sum(const struct loops_set *set, distance_function *distance_of)
+{
+    uint64_t sum = 0;
+    for (size_t i = 0; i < set->count; i++) {
+        struct pair numbers = pair(set, i);
+        sum += (uint64_t)distance_of(numbers.from, numbers.to);
+    }
+    return sum;
+}
+
+static uint64_t library_distance(const struct loops_set *set)
+{
+    return distance_sum(set, noppalerk_distance);
+}
+
+static uint64_t c_distance(const struct loops_set *set)
+{
+    return distance_sum(set, distance);
+}
+
 static round_function *const rounds_of[] = {
     [LOOPS_LIBRARY_REFUSAL] = library_refusal,
     [LOOPS_C_REFUSAL] = c_refusal,
     [LOOPS_C_FIELDS] = c_fields,
     [LOOPS_LWIP] = lwip,
+    [LOOPS_LIBRARY_DISTANCE] = library_distance,
+    [LOOPS_C_DISTANCE] = c_distance,
 };
 
 static uint64_t now(void)

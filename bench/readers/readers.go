@@ -1,4 +1,4 @@
-// Package readers calls the readers in C: the library through its C entry, the C reader and lwIP.
+// Package readers calls the loops in C: the library through its C entry, the C reader, lwIP, and the distance in C.
 package readers
 
 // #include "loops.h"
@@ -15,10 +15,12 @@ type Reader uint32
 
 // The loops of c/loops.h.
 const (
-	LibraryRefusal Reader = C.LOOPS_LIBRARY_REFUSAL
-	CRefusal       Reader = C.LOOPS_C_REFUSAL
-	CFields        Reader = C.LOOPS_C_FIELDS
-	LwIP           Reader = C.LOOPS_LWIP
+	LibraryRefusal  Reader = C.LOOPS_LIBRARY_REFUSAL
+	CRefusal        Reader = C.LOOPS_C_REFUSAL
+	CFields         Reader = C.LOOPS_C_FIELDS
+	LwIP            Reader = C.LOOPS_LWIP
+	LibraryDistance Reader = C.LOOPS_LIBRARY_DISTANCE
+	CDistance       Reader = C.LOOPS_C_DISTANCE
 )
 
 // The set is passed by value, so that C sees one pointer to plain octets.

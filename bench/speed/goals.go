@@ -61,4 +61,4 @@ func everyRowGoal(rows []*readingRow) {
 		fmt.Sprintf("at least %s (%s)", ratio(1, worst.timesC()), worst.name))
 }
 
-func (r *refusalRow) timesC() float64 { return r.library.nanoseconds() / r.c.nanoseconds() }
+func (r *entryRow) timesC() float64 { return r.library.nanoseconds() / r.c.nanoseconds() }

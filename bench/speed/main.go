@@ -17,14 +17,15 @@ func main() {
 	s := arguments()
 	runtime.LockOSThread()
 
-	readings := newReadingRows(s)
+	readings, distance := newReadingRows(s), newDistanceRow()
 	arrivals := newArrivalRows(s)
 	acknowledgment := newAcknowledgmentRow(s, 3)
 	lengths, options, ranges := newLengthRows(s), newOptionRows(), newRangesRows(s)
-	measure(s, rowsOf(readings), rowsOf(arrivals), []row{acknowledgment}, rowsOf(lengths), rowsOf(options), rowsOf(ranges))
+	measure(s, rowsOf(readings), []row{distance}, rowsOf(arrivals), []row{acknowledgment}, rowsOf(lengths), rowsOf(options), rowsOf(ranges))
 
 	refusalTable(readings).Print()
 	fieldsTable(readings).Print()
+	distanceTable(distance).Print()
 	arrivalTable(arrivals).Print()
 	acknowledgmentTable(acknowledgment).Print()
 	lengthTable(lengths).Print()

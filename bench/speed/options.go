@@ -10,8 +10,8 @@ import (
 )
 
 // newOptionRows have so many options of one sort, judged by the refusal number.
-func newOptionRows() []*refusalRow {
-	rows := []*refusalRow{newOptionRow("none", nil)}
+func newOptionRows() []*entryRow {
+	rows := []*entryRow{newOptionRow("none", nil)}
 	for _, count := range []int{1, 5, 10, 20} {
 		rows = append(rows, newOptionRow(fmt.Sprintf("%d unknown of two octets", count), segment.Unknown(count)))
 	}
@@ -21,7 +21,7 @@ func newOptionRows() []*refusalRow {
 	return rows
 }
 
-func newOptionRow(name string, options []byte) *refusalRow {
+func newOptionRow(name string, options []byte) *entryRow {
 	return newRefusalRow(readingCase{name: name, flags: segment.ACK, options: fixed(padded(options))})
 }
 
@@ -33,13 +33,12 @@ func padded(options []byte) []byte {
 	return options
 }
 
-func optionTable(rows []*refusalRow) *table.Table {
+func optionTable(rows []*entryRow) *table.Table {
 	t := table.New("How cost grows: the number of options, by the refusal number",
 		"Lists are filled up to a multiple of four octets with end-of-list.",
 		table.Text("options"), table.Number("library, ns"), table.Number("C reader / library"))
 	for _, r := range rows {
-		ours := r.library.nanoseconds()
-		t.Add(r.name, nanoseconds(ours), ratio(r.c.nanoseconds(), ours))
+		t.Add(r.cells()...)
 	}
 	return t
 }

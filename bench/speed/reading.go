@@ -11,19 +11,11 @@ import (
 	"noppalerk/bench/table"
 )
 
-// A refusalRow is a case that the library and the C reader judge, both from a loop in C.
-type refusalRow struct {
-	name       string
-	library, c *loop
-}
-
-func newRefusalRow(c readingCase) *refusalRow {
+func newRefusalRow(c readingCase) *entryRow {
 	set := c.set()
 	mustRefuse(c, set)
-	return &refusalRow{name: c.name, library: newCLoop(readers.LibraryRefusal, set), c: newCLoop(readers.CRefusal, set)}
+	return newEntryRow(c.name, readers.LibraryRefusal, readers.CRefusal, set)
 }
-
-func (r *refusalRow) pass(s settings) { contest(s.turns, r.library, r.c) }
 
 // mustRefuse holds the library's C entry and the C reader to the case's number.
 func mustRefuse(c readingCase, set segment.Set) {
@@ -37,7 +29,7 @@ func mustRefuse(c readingCase, set segment.Set) {
 
 // A readingRow is a case that every reader reads.
 type readingRow struct {
-	refusal                   *refusalRow
+	refusal                   *entryRow
 	fields                    *streamRow
 	c, lwIP, gVisor, goPacket *loop
 	sum                       uint64 // of the C reader's fields
