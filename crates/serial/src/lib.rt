@@ -1,12 +1,10 @@
 // Serial numbers: 32-bit numbers that wrap, as sequence numbers and timestamps do. The two kinds are types of their own, and
 // share their definitions and laws.
 ghost use mathlib.Core.Path.{_≡_};
-ghost use Prim.Native.Nat.{_<_, _^_};
-ghost use lib.IntN.{negsuc};
 ghost use Rattle.serial.specs.Serial.{IsDistance, distanceOf, isAtOrBefore, isBefore, movedBy, offsetOf, roundTrip, stampAt};
 
-// Half of 2^32: the least difference that counts as behind.
-const HALF: u32 = 0x8000_0000;
+// The top bit of a u32.
+const TOP_BIT: u32 = 0x8000_0000;
 
 // A sequence number.
 pub struct Seq(pub u32);
@@ -90,31 +88,15 @@ impl Stamp {
     }
 }
 
-// The distance from `a` to `b`, by plain comparison and subtraction.
+// The distance from `a` to `b`: the offset of `b` from `a`, modulo 2^32, of which the top bit counts as -2^31.
 fn difference(a: u32, b: u32) -> i32
     ensures { λ r. ⌜ IsDistance a b r ⌝ }
 {
-    if a <= b {
-        let ahead = b - a;
-        if ahead < HALF {
-            ahead as i32
-        } else {
-            negative(u32::MAX - ahead)
-        }
+    let offset = std::num::wrapping_sub_u32(b, a);
+    let low = (offset & !TOP_BIT) as i32;
+    if offset & TOP_BIT == 0 {
+        low
     } else {
-        let behind = a - b - 1;
-        if behind < HALF {
-            negative(behind)
-        } else {
-            (u32::MAX - behind) as i32
-        }
+        i32::MIN + low
     }
-}
-
-// -(n + 1), so that -2^31 is the negative of a number that an i32 holds.
-fn negative(n: u32) -> i32
-    requires { ⌜ n < 2 ^ 31 ⌝ }
-    ensures { λ r. ⌜ r ≡ negsuc n ⌝ }
-{
-    -1 - (n as i32)
 }
