@@ -1,4 +1,4 @@
-/* The loops in C. A reader is called and not inlined, as it stands in another file. */
+/* The loops in C. A reader or a distance is called and not inlined, as it stands in another file. */
 #define _POSIX_C_SOURCE 199309L
 #include "loops.h"
 

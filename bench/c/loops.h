@@ -1,4 +1,4 @@
-/* The loops in C that are timed: one short run reads each segment of a set so many times. */
+/* The loops in C that are timed: one short run goes through a set so many times. */
 #ifndef LOOPS_H
 #define LOOPS_H
 

@@ -32,12 +32,12 @@ func inC(set segment.Set) C.struct_loops_set {
 	}
 }
 
-// Run reads each segment of the set so many times, and gives the nanoseconds that all took.
+// Run goes through the set so many times, and gives the nanoseconds that all took.
 func (r Reader) Run(set segment.Set, rounds int) float64 {
 	return float64(C.loops_run(uint32(r), inC(set), C.size_t(rounds)))
 }
 
-// Sum reads each segment once, and adds up what is read.
+// Sum goes through the set once, and adds up what each call gives.
 func (r Reader) Sum(set segment.Set) uint64 {
 	return uint64(C.loops_sum(uint32(r), inC(set)))
 }

@@ -2,7 +2,7 @@
 
 package segment
 
-// Set has segments of one length side by side in one buffer, for the timed loops.
+// Set has segments of one length side by side in one buffer, for the timed loops; for the distance they are pairs of numbers.
 type Set struct {
 	Octets []byte
 	Length int

@@ -1,4 +1,4 @@
-// The table of the distance.
+// The table of the distance of two serial numbers.
 
 package main
 

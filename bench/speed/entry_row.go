@@ -1,4 +1,4 @@
-// What the library's C entry and C code are timed in.
+// The rows that time the library's C entry beside C code.
 
 package main
 
