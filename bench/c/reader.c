@@ -101,7 +101,7 @@ static inline void read_blocks(const uint8_t *option, struct reader_segment *rea
     }
 }
 
-/* The option has its kind's right length; an unknown kind is passed. */
+/* The option has its kind's right length; an unknown kind is counted. */
 static inline void read_option(const uint8_t *option, struct reader_segment *read)
 {
     switch (option[0]) {
@@ -125,6 +125,7 @@ static inline void read_option(const uint8_t *option, struct reader_segment *rea
         read->tsecr = number32(option + 6);
         break;
     default:
+        read->skipped++;
         break;
     }
 }
@@ -148,6 +149,7 @@ static inline void clear_options(struct reader_segment *read)
     read->scale = 0;
     read->tsval = read->tsecr = 0;
     read->block_count = 0;
+    read->skipped = 0;
 }
 
 uint32_t reader_read(const uint8_t *segment, size_t length, struct reader_segment *read)
@@ -155,6 +157,7 @@ uint32_t reader_read(const uint8_t *segment, size_t length, struct reader_segmen
     size_t header;
     uint32_t number = header_refusal(segment, length, &header);
     if (number != 0) {
+        read->place = 0;
         return number;
     }
     clear_options(read);
@@ -166,6 +169,7 @@ uint32_t reader_read(const uint8_t *segment, size_t length, struct reader_segmen
         }
         number = option_refusal(segment + at, header - at, &seen);
         if (number != 0) {
+            read->place = (uint8_t)at;
             return number;
         }
         read_option(segment + at, read);

@@ -36,6 +36,17 @@ func compare(peer string, ours, theirs []string, segments [][]byte, classes []cl
 	return c
 }
 
+// withoutPlaces leaves out the places of options at fault, which gopacket and scapy do not give.
+func withoutPlaces(lines []string) []string {
+	cut := append([]string{}, lines...)
+	for i, line := range lines {
+		if !isReadable(line) {
+			cut[i] = line[:strings.LastIndex(line, " ")]
+		}
+	}
+	return cut
+}
+
 func isReadable(line string) bool { return strings.HasPrefix(line, "read 0 ") }
 
 func (c comparison) classOf(ours, theirs string, octets []byte) int {

@@ -83,5 +83,7 @@ func addOption(fields *segment.Fields, option layers.TCPOption) {
 		for ; len(data) >= 8; data = data[8:] {
 			fields.Blocks = append(fields.Blocks, segment.Block{Left: binary.BigEndian.Uint32(data), Right: binary.BigEndian.Uint32(data[4:])})
 		}
+	case isUnknown(byte(option.OptionType)):
+		fields.Skipped++
 	}
 }

@@ -112,9 +112,13 @@ func knownOption(random *rand.Rand, kind byte) []byte {
 	return optionOf(random, kind, length)
 }
 
+func isUnknown(kind byte) bool {
+	return rightLengths[kind] == nil && kind != segment.KindEnd && kind != segment.KindNOP
+}
+
 func unknownOption(random *rand.Rand) []byte {
 	kind := byte(random.Intn(256))
-	for rightLengths[kind] != nil || kind == segment.KindEnd || kind == segment.KindNOP {
+	for !isUnknown(kind) {
 		kind = byte(random.Intn(256))
 	}
 	length := 2 + random.Intn(11)

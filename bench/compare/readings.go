@@ -44,11 +44,11 @@ func linesFor(segments [][]byte, input []byte, program string, words ...string) 
 func readByC(segments [][]byte) []string {
 	lines := make([]string, len(segments))
 	for i, octets := range segments {
-		number, fields := readers.Fields(octets)
+		number, fields, place := readers.Fields(octets)
 		if refusal := readers.Refusal(octets); refusal != number {
 			fail.Now("the C reader's numbers are %d and %d: %x", number, refusal, octets)
 		}
-		lines[i] = segment.RefusalLine(number)
+		lines[i] = segment.PlacedLine(number, place)
 		if number == 0 {
 			lines[i] = fields.Line()
 		}

@@ -11,6 +11,9 @@ from typing import BinaryIO
 
 from scapy.layers.inet import TCP
 
+# What scapy calls the options that the library knows, and the padding.
+KNOWN = {"EOL", "NOP", "MSS", "WScale", "SAckOK", "SAck", "Timestamp"}
+
 
 def segments(stream: BinaryIO) -> Iterator[bytes]:
     while head := stream.read(4):
@@ -42,8 +45,9 @@ def line(octets: bytes) -> str:
     flags = int(tcp.flags) & 0xFF  # the ninth is a bit of the offset's octet
     header = [tcp.sport, tcp.dport, tcp.seq, tcp.ack, flags, tcp.window, tcp.urgptr]
     start = 4 * (tcp.dataofs or 0)
-    payload = [start, len(tcp.payload)]
-    fields = [str(field) for field in header] + option_words(dict(tcp.options)) + [str(field) for field in payload]
+    skipped = sum(name not in KNOWN for name, _ in tcp.options)
+    last = [start, len(tcp.payload), skipped]
+    fields = [str(field) for field in header] + option_words(dict(tcp.options)) + [str(field) for field in last]
     return " ".join(["read", "0"] + fields)
 
 

@@ -16,14 +16,14 @@ func Refusal(octets []byte) int {
 	return int(C.reader_refusal(first(octets), C.size_t(len(octets))))
 }
 
-// Fields is the C reader's number for a segment and, at 0, all that it reads.
-func Fields(octets []byte) (int, segment.Fields) {
-	var read C.struct_reader_segment
-	number := int(C.reader_read(first(octets), C.size_t(len(octets)), &read))
-	if number != 0 {
-		return number, segment.Fields{}
+// Fields is the C reader's number for a segment, all that it reads at 0, and the place of an option at fault.
+func Fields(octets []byte) (number int, read segment.Fields, place int) {
+	var inC C.struct_reader_segment
+	number = int(C.reader_read(first(octets), C.size_t(len(octets)), &inC))
+	if number == 0 {
+		read = fields(inC)
 	}
-	return 0, fields(read)
+	return number, read, int(inC.place)
 }
 
 func first(octets []byte) *C.uint8_t {
@@ -42,6 +42,7 @@ func fields(read C.struct_reader_segment) segment.Fields {
 		},
 		Urgent:        uint16(read.urgent),
 		SACKPermitted: bool(read.sack_permitted),
+		Skipped:       int(read.skipped),
 		PayloadStart:  int(read.payload_start),
 		PayloadLength: int(read.payload_length),
 	}

@@ -17,6 +17,7 @@ type Fields struct {
 	Timestamps                  *[2]uint32 // TSval, TSecr
 	Blocks                      []Block
 	PayloadStart, PayloadLength int
+	Skipped                     int // unknown options
 }
 
 // SetMSS notes that there is an MSS.
@@ -35,7 +36,7 @@ func (f Fields) Line() string {
 	for _, block := range f.Blocks {
 		words = append(words, fmt.Sprint(block.Left), fmt.Sprint(block.Right))
 	}
-	words = append(words, fmt.Sprint(f.PayloadStart), fmt.Sprint(f.PayloadLength))
+	words = append(words, fmt.Sprint(f.PayloadStart), fmt.Sprint(f.PayloadLength), fmt.Sprint(f.Skipped))
 	return strings.Join(words, " ")
 }
 
@@ -60,7 +61,15 @@ func (f Fields) optionWords() string {
 	return strings.Join([]string{mss, scale, permitted, stamps}, " ")
 }
 
-// RefusalLine writes a refusal's number as the replay program does.
+// RefusalLine writes a refusal's number as the replay program does, but for the place.
 func RefusalLine(number int) string {
 	return fmt.Sprintf("read %d", number)
+}
+
+// PlacedLine also has the place of the option at fault, 0 where there is none.
+func PlacedLine(number, place int) string {
+	if place == 0 {
+		return RefusalLine(number) + " -"
+	}
+	return fmt.Sprintf("%s %d", RefusalLine(number), place)
 }

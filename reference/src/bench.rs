@@ -66,7 +66,8 @@ fn prepare(calls: &[u8]) -> Result<Option<Connection>, Bad> {
 fn prepare_by(call: &Call, record: &mut Option<Connection>) -> Result<(), Bad> {
     match (*call, record) {
         (Call::Open { opening, segment }, record) => {
-            *record = Connection::open(&opening, segment).ok().or(*record);
+            let opened = Connection::open(&opening, segment);
+            *record = opened.ok().map(|opened| opened.connection).or(*record);
         }
         (Call::Arrive { clock, segment }, Some(connection)) => {
             let _ = connection.arrive(clock, segment);

@@ -6,7 +6,7 @@ use crate::refusal::Refusal;
 use crate::segment::Segment;
 use crate::serial::{Seq, Stamp};
 use crate::timer::Timer;
-use crate::verdict::{Part, Reason, Rejection, ReportedBlocks, Taken, Verdict};
+use crate::verdict::{Judged, Part, Reason, Rejection, ReportedBlocks, Taken, Verdict};
 
 pub const MAX_SHIFT: u8 = 14;
 /// The largest value of the window field.
@@ -57,9 +57,16 @@ pub struct Connection {
     pub timer: Timer,
 }
 
+/// A record as it was opened, and how many unknown options of the peer's SYN were skipped.
+#[derive(Clone, Copy, Debug, PartialEq, Eq)]
+pub struct Opened {
+    pub connection: Connection,
+    pub skipped: u8,
+}
+
 impl Connection {
     /// Opens a record from our side of the opening and the peer's SYN segment.
-    pub fn open(opening: &Opening, octets: &[u8]) -> Result<Connection, Refusal> {
+    pub fn open(opening: &Opening, octets: &[u8]) -> Result<Opened, Refusal> {
         if !opening.is_allowed() {
             return Err(Refusal::OwnOffer);
         }
@@ -74,7 +81,7 @@ impl Connection {
         }
         let (rcv_shift, snd_shift) = agreed_shifts(opening.shift, syn.options.scale);
         let stamp = syn.options.timestamps.filter(|_| opening.timestamps);
-        Ok(Connection {
+        let connection = Connection {
             rcv_nxt: syn.seq.plus(1),
             rcv_wnd: opening.window,
             last_ack_sent: syn.seq.plus(1),
@@ -94,16 +101,28 @@ impl Connection {
             mss: syn.options.mss.unwrap_or(DEFAULT_MSS),
             held: HeldRanges::default(),
             timer: Timer::default(),
+        };
+        Ok(Opened {
+            connection,
+            skipped: syn.options.skipped,
         })
     }
 
     /// Judges an arriving segment and, where it is taken, changes the record by it.
-    pub fn arrive<'a>(&mut self, clock: u64, octets: &'a [u8]) -> Result<Verdict<'a>, Refusal> {
+    pub fn arrive<'a>(&mut self, clock: u64, octets: &'a [u8]) -> Result<Judged<'a>, Refusal> {
         let segment = Segment::read(octets)?;
         self.check_clock(clock)?;
+        let skipped = segment.options.skipped;
+        // Each answer is built in its place, so that a take is not copied.
         match self.judge(clock, &segment) {
-            Ok(part) => Ok(Verdict::Take(self.take(clock, &segment, part))),
-            Err(rejection) => Ok(Verdict::Reject(rejection)),
+            Ok(part) => Ok(Judged {
+                verdict: Verdict::Take(self.take(clock, &segment, part)),
+                skipped,
+            }),
+            Err(rejection) => Ok(Judged {
+                verdict: Verdict::Reject(rejection),
+                skipped,
+            }),
         }
     }
 

@@ -1,4 +1,5 @@
-//! Counts how often each call of a script gave each number.
+//! Counts how often each call of a script gave each number, with the least and the most of the places of faulty
+//! options, or of the counts of skipped ones, that came with it.
 
 use std::collections::BTreeMap;
 use std::fmt::{self, Display};
@@ -23,6 +24,9 @@ const POSSIBLE: [(&str, &[u8]); 8] = [
     ("refusal", &[0, 1, 2, 3, 4, 5, 6]),
 ];
 
+/// The calls whose line ends in the place of an option at fault or a count of skipped options.
+const PLACED: [&str; 3] = ["read", "open", "arrive"];
+
 /// What a call answered, as far as it is counted.
 #[derive(Clone, Copy, Debug, PartialEq, Eq, PartialOrd, Ord)]
 enum Outcome {
@@ -42,10 +46,27 @@ impl Display for Outcome {
     }
 }
 
+/// How often an outcome was given, and the least and the most that the lines' last field `where` held.
+#[derive(Clone, Copy, Default)]
+struct Tally {
+    count: u64,
+    span: Option<(u8, u8)>,
+}
+
+impl Tally {
+    fn note(&mut self, place_or_count: Option<u8>) {
+        self.count += 1;
+        if let Some(value) = place_or_count {
+            let (least, most) = self.span.unwrap_or((value, value));
+            self.span = Some((least.min(value), most.max(value)));
+        }
+    }
+}
+
 /// How often each call gave each outcome.
 #[derive(Default)]
 pub struct Counts {
-    counts: BTreeMap<(&'static str, Outcome), u64>,
+    counts: BTreeMap<(&'static str, Outcome), Tally>,
 }
 
 impl Counts {
@@ -59,16 +80,23 @@ impl Counts {
                 Ok(call) => {
                     lines.clear();
                     player.play(&call, &mut lines);
-                    counts.note(name(&call), outcome(&call, &lines));
+                    let tally = counts.tally(name(&call), outcome(&call, &lines));
+                    tally.note(place_or_count(&call, &lines));
                 }
-                Err(_) => counts.note(BAD_LINE.trim_end(), Outcome::Plain),
+                Err(_) => counts.tally(BAD_LINE.trim_end(), Outcome::Plain).note(None),
             }
         }
         counts
     }
 
-    fn note(&mut self, name: &'static str, outcome: Outcome) {
-        *self.counts.entry((name, outcome)).or_insert(0) += 1;
+    fn tally(&mut self, name: &'static str, outcome: Outcome) -> &mut Tally {
+        self.counts.entry((name, outcome)).or_default()
+    }
+
+    /// The least and the most of the places or counts that came with a number; none where none came.
+    pub fn span(&self, name: &'static str, number: u8) -> Option<(u8, u8)> {
+        let tally = self.counts.get(&(name, Outcome::Number(number)));
+        tally.and_then(|tally| tally.span)
     }
 
     /// The calls with the numbers that they can give but did not.
@@ -84,9 +112,22 @@ impl Counts {
 
 impl Display for Counts {
     fn fmt(&self, f: &mut fmt::Formatter) -> fmt::Result {
-        writeln!(f, "{:<16} {:>6} {:>9}", "call", "number", "count")?;
-        for (&(name, outcome), count) in &self.counts {
-            writeln!(f, "{:<16} {:>6} {:>9}", name, outcome.to_string(), count)?;
+        writeln!(
+            f,
+            "{:<16} {:>6} {:>9} {:>6}",
+            "call", "number", "count", "where"
+        )?;
+        for (&(name, outcome), tally) in &self.counts {
+            let span = match tally.span {
+                Some((least, most)) => format!("{}-{}", least, most),
+                None => "-".to_owned(),
+            };
+            let outcome = outcome.to_string();
+            writeln!(
+                f,
+                "{:<16} {:>6} {:>9} {:>6}",
+                name, outcome, tally.count, span
+            )?;
         }
         let missing = self.never_reached();
         if missing.is_empty() {
@@ -131,9 +172,20 @@ fn outcome(call: &Call, lines: &str) -> Outcome {
     }
 }
 
+/// The last field of the first line, for the calls that end it in one.
+fn place_or_count(call: &Call, lines: &str) -> Option<u8> {
+    if !PLACED.contains(&name(call)) {
+        return None;
+    }
+    let first = lines.lines().next()?;
+    first.rsplit(' ').next()?.parse().ok()
+}
+
 #[cfg(test)]
 mod tests {
     use super::*;
+    use crate::builder::SegmentBuilder;
+    use crate::serial::Seq;
 
     #[test]
     fn numbers_are_counted_by_call() {
@@ -148,11 +200,34 @@ mod tests {
             .lines()
             .map(|line| line.split_whitespace().collect())
             .collect();
-        assert_eq!(rows[1], ["bad", "-", "1"]);
-        assert_eq!(rows[2], ["distance", "-", "1"]);
-        assert_eq!(rows[3], ["sample", "0", "2"]);
-        assert_eq!(rows[4], ["sent", "closed", "1"]);
+        assert_eq!(rows[1], ["bad", "-", "1", "-"]);
+        assert_eq!(rows[2], ["distance", "-", "1", "-"]);
+        assert_eq!(rows[3], ["sample", "0", "2", "-"]);
+        assert_eq!(rows[4], ["sent", "closed", "1", "-"]);
         assert!(table.contains("never reached: sample 14\n"));
         assert!(!table.contains("never reached: sample 0\n"));
+    }
+
+    #[test]
+    fn places_and_counts_span_from_the_least_to_the_most() {
+        let mut script = Vec::new();
+        let lists: [&[u8]; 5] = [
+            &[254, 2, 254, 2],
+            &[254, 2],
+            &[1, 254],
+            &[],
+            &[1, 1, 254, 9],
+        ];
+        for options in lists {
+            let segment = &SegmentBuilder::syn(Seq(1)).options(options).build();
+            Call::Read { segment }.encode(&mut script);
+        }
+        Call::Read { segment: &[] }.encode(&mut script);
+        let counts = Counts::of(&script);
+        assert_eq!(counts.span("read", 0), Some((0, 2)));
+        assert_eq!(counts.span("read", 4), Some((21, 22)));
+        assert_eq!(counts.span("read", 1), None);
+        assert_eq!(counts.span("open", 0), None);
+        assert!(counts.to_string().contains(" 0-2\n"));
     }
 }

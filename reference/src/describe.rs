@@ -4,6 +4,7 @@ use std::fmt::{self, Display};
 
 use crate::connection::Opening;
 use crate::play::Hex;
+use crate::refusal::Refusal;
 use crate::script::Call;
 use crate::segment::Segment;
 
@@ -109,7 +110,7 @@ impl Display for SegmentWords<'_> {
     fn fmt(&self, f: &mut fmt::Formatter) -> fmt::Result {
         let segment = match Segment::read(self.0) {
             Ok(segment) => segment,
-            Err(refusal) => return write!(f, "unreadable, E{}", refusal.number()),
+            Err(refusal) => return write_refusal(f, refusal),
         };
         write!(f, "SEQ {} ACK {} flags ", segment.seq.0, segment.ack.0)?;
         write_flags(f, segment.flags.0)?;
@@ -134,7 +135,18 @@ impl Display for SegmentWords<'_> {
         for block in segment.options.sack.iter() {
             write!(f, " SACK {}-{}", block.left.0, block.right.0)?;
         }
-        Ok(())
+        match segment.options.skipped {
+            0 => Ok(()),
+            skipped => write!(f, " skipped {}", skipped),
+        }
+    }
+}
+
+fn write_refusal(f: &mut fmt::Formatter, refusal: Refusal) -> fmt::Result {
+    write!(f, "unreadable, E{}", refusal.number())?;
+    match refusal.place() {
+        Some(place) => write!(f, " at {}", place.0),
+        None => Ok(()),
     }
 }
 
@@ -160,6 +172,7 @@ mod tests {
     fn an_arrival_in_words() {
         let segment = SegmentBuilder::new(Seq(5), Seq(6), ACK | FIN)
             .timestamps(Stamp(7), Stamp(8))
+            .options(&[254, 2])
             .build();
         let call = Call::Arrive {
             clock: 9,
@@ -172,7 +185,7 @@ mod tests {
         assert_eq!(
             readable.to_string(),
             "arrive clock 9 segment (SEQ 5 ACK 6 flags ACK|FIN window 8192 payload 0 \
-             TSval 7 TSecr 8) 32 octets 3039..."
+             TSval 7 TSecr 8 skipped 1) 32 octets 3039..."
         );
     }
 
@@ -187,5 +200,8 @@ mod tests {
             readable.to_string(),
             "read segment (unreadable, E1) 1 octets 01"
         );
+        let fault = SegmentBuilder::syn(Seq(1)).options(&[1, 254, 1]).build();
+        let words = SegmentWords(&fault).to_string();
+        assert_eq!(words, "unreadable, E4 at 21");
     }
 }

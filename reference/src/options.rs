@@ -2,7 +2,8 @@
 
 use crate::octets::{u16_at, u32_at};
 use crate::ranges::Range;
-use crate::refusal::Refusal;
+use crate::refusal::{Place, Refusal};
+use crate::segment::HEADER_LENGTH;
 use crate::serial::{Seq, Stamp};
 
 pub const END: u8 = 0;
@@ -20,7 +21,7 @@ pub struct Timestamps {
     pub echo: Stamp,
 }
 
-/// What the known options of a segment say.
+/// What the known options of a segment say, and how many others were skipped.
 #[derive(Clone, Copy, Debug, Default, PartialEq, Eq)]
 pub struct Options<'a> {
     pub mss: Option<u16>,
@@ -28,22 +29,24 @@ pub struct Options<'a> {
     pub sack_permitted: bool,
     pub timestamps: Option<Timestamps>,
     pub sack: BlocksInPlace<'a>,
+    pub skipped: u8,
 }
 
 impl<'a> Options<'a> {
-    /// Reads the options of a header from left to right; the first faulty one decides.
+    /// Reads the options of a whole header from left to right; the first faulty one decides.
     #[inline(always)]
-    pub fn read(list: &'a [u8]) -> Result<Options<'a>, Refusal> {
+    pub fn read(header: &'a [u8]) -> Result<Options<'a>, Refusal> {
         let mut options = Options::default();
-        for option in Walk::new(list) {
-            let option = option?;
-            options.note(option[0], &option[2..])?;
+        for option in Walk::new(header) {
+            let PlacedOption { place, octets } = option?;
+            options.note(octets).map_err(|fault| fault(place))?;
         }
         Ok(options)
     }
 
     #[inline(always)]
-    fn note(&mut self, kind: u8, body: &'a [u8]) -> Result<(), Refusal> {
+    fn note(&mut self, option: &'a [u8]) -> Result<(), Fault> {
+        let (kind, body) = (option[0], &option[2..]);
         match (kind, body.len()) {
             (MSS, 2) => set_once(&mut self.mss, Some(u16_at(body, 0))),
             (WINDOW_SCALE, 1) => set_once(&mut self.scale, Some(body[0])),
@@ -53,13 +56,19 @@ impl<'a> Options<'a> {
             (MSS | WINDOW_SCALE | SACK_PERMITTED | SACK | TIMESTAMPS, _) => {
                 Err(Refusal::OptionLength)
             }
-            _ => Ok(()),
+            _ => {
+                self.skipped += 1;
+                Ok(())
+            }
         }
     }
 }
 
+/// A fault whose place is still to be added.
+type Fault = fn(Place) -> Refusal;
+
 /// Notes what an option says; a second one of its kind finds the field no longer at its default.
-fn set_once<T: Default + PartialEq>(field: &mut T, value: T) -> Result<(), Refusal> {
+fn set_once<T: Default + PartialEq>(field: &mut T, value: T) -> Result<(), Fault> {
     if *field != T::default() {
         return Err(Refusal::OptionRepeated);
     }
@@ -87,41 +96,54 @@ fn read_timestamps(body: &[u8]) -> Timestamps {
     }
 }
 
-/// Walks an option list and gives each option with its kind and length octets. NOPs are passed over,
-/// the list ends at kind 0 or the header's end, and an option out of bounds gives E4 and ends it too.
+/// An option with its kind and length octets, and where it stands in the segment.
+#[derive(Clone, Copy, Debug, PartialEq, Eq)]
+pub struct PlacedOption<'a> {
+    pub place: Place,
+    pub octets: &'a [u8],
+}
+
+/// Walks the options of a header. NOPs are passed over, the list ends at kind 0 or the header's end,
+/// and an option out of bounds gives E4 and ends it too.
 pub struct Walk<'a> {
+    /// Where the header ends.
+    end: usize,
     rest: &'a [u8],
 }
 
 impl<'a> Walk<'a> {
-    pub fn new(list: &'a [u8]) -> Walk<'a> {
-        Walk { rest: list }
+    /// Takes a whole header, so that places count from the segment's first octet.
+    pub fn new(header: &'a [u8]) -> Walk<'a> {
+        Walk {
+            end: header.len(),
+            rest: &header[HEADER_LENGTH..],
+        }
     }
 
-    /// The octets that are not walked yet.
-    pub fn rest(&self) -> &'a [u8] {
-        self.rest
+    fn place(&self) -> Place {
+        Place((self.end - self.rest.len()) as u8)
     }
 }
 
 impl<'a> Iterator for Walk<'a> {
-    type Item = Result<&'a [u8], Refusal>;
+    type Item = Result<PlacedOption<'a>, Refusal>;
 
     #[inline(always)]
     fn next(&mut self) -> Option<Self::Item> {
         while let [NOP, rest @ ..] = self.rest {
             self.rest = rest;
         }
+        let place = self.place();
         match *self.rest {
             [] | [END, ..] => None,
             [_, length, ..] if length >= 2 && usize::from(length) <= self.rest.len() => {
-                let (option, rest) = self.rest.split_at(usize::from(length));
+                let (octets, rest) = self.rest.split_at(usize::from(length));
                 self.rest = rest;
-                Some(Ok(option))
+                Some(Ok(PlacedOption { place, octets }))
             }
             _ => {
                 self.rest = &[];
-                Some(Err(Refusal::OptionBounds))
+                Some(Err(Refusal::OptionBounds(place)))
             }
         }
     }
@@ -131,47 +153,112 @@ impl<'a> Iterator for Walk<'a> {
 mod tests {
     use super::*;
 
+    fn header(list: &[u8]) -> Vec<u8> {
+        [&[0; HEADER_LENGTH][..], list].concat()
+    }
+
     fn refusal(list: &[u8]) -> Option<Refusal> {
-        Options::read(list).err()
+        Options::read(&header(list)).err()
+    }
+
+    fn skipped(list: &[u8]) -> u8 {
+        Options::read(&header(list)).unwrap().skipped
+    }
+
+    fn bounds(place: u8) -> Option<Refusal> {
+        Some(Refusal::OptionBounds(Place(place)))
+    }
+
+    fn length(place: u8) -> Option<Refusal> {
+        Some(Refusal::OptionLength(Place(place)))
+    }
+
+    fn repeated(place: u8) -> Option<Refusal> {
+        Some(Refusal::OptionRepeated(Place(place)))
     }
 
     #[test]
     fn m7_an_option_past_the_header_is_e4() {
-        assert_eq!(refusal(&[8, 9, 0, 0]), Some(Refusal::OptionBounds));
+        assert_eq!(refusal(&[8, 9, 0, 0]), bounds(20));
     }
 
     #[test]
     fn e4_in_its_three_ways() {
-        assert_eq!(refusal(&[1, 1, 1, 2]), Some(Refusal::OptionBounds));
-        assert_eq!(refusal(&[99, 0, 0, 0]), Some(Refusal::OptionBounds));
-        assert_eq!(refusal(&[99, 1, 0, 0]), Some(Refusal::OptionBounds));
-        assert_eq!(refusal(&[99, 5, 0, 0]), Some(Refusal::OptionBounds));
+        assert_eq!(refusal(&[1, 1, 1, 2]), bounds(23));
+        assert_eq!(refusal(&[99, 0, 0, 0]), bounds(20));
+        assert_eq!(refusal(&[99, 1, 0, 0]), bounds(20));
+        assert_eq!(refusal(&[99, 5, 0, 0]), bounds(20));
         assert_eq!(refusal(&[99, 4, 0, 0]), None);
     }
 
     #[test]
     fn the_first_faulty_option_decides() {
-        assert_eq!(
-            refusal(&[2, 3, 0, 99, 0, 0, 0, 0]),
-            Some(Refusal::OptionLength)
-        );
-        assert_eq!(refusal(&[4, 2, 4, 2]), Some(Refusal::OptionRepeated));
-        assert_eq!(
-            refusal(&[4, 2, 4, 3, 0, 0, 0, 0]),
-            Some(Refusal::OptionLength)
-        );
+        assert_eq!(refusal(&[2, 3, 0, 99, 0, 0, 0, 0]), length(20));
+        assert_eq!(refusal(&[99, 2, 2, 3, 0, 99, 0, 0]), length(22));
+        assert_eq!(refusal(&[4, 2, 4, 2]), repeated(22));
+        assert_eq!(refusal(&[4, 2, 4, 2, 4, 2, 0, 0]), repeated(22));
+        assert_eq!(refusal(&[4, 2, 4, 3, 0, 0, 0, 0]), length(22));
         assert_eq!(refusal(&[99, 2, 99, 2]), None);
+    }
+
+    #[test]
+    fn places_behind_other_options() {
+        assert_eq!(refusal(&[4, 2, 99, 0]), bounds(22));
+        assert_eq!(refusal(&[99, 3, 0, 1, 8, 1, 0, 0]), bounds(24));
+        assert_eq!(refusal(&[1, 99, 4, 4, 3, 3, 2, 0]), length(25));
+        let between = [4, 2, 99, 3, 4, 1, 98, 2, 1, 4, 2, 0];
+        assert_eq!(refusal(&between), repeated(29));
+    }
+
+    #[test]
+    fn the_highest_places() {
+        let last = |head: &[u8]| {
+            let mut list = vec![1; 40 - head.len()];
+            list.extend_from_slice(head);
+            list
+        };
+        assert_eq!(refusal(&last(&[99])), bounds(59));
+        assert_eq!(refusal(&last(&[4, 3])), bounds(58));
+        assert_eq!(refusal(&last(&[2, 2])), length(58));
+        let mut twice = last(&[4, 2]);
+        assert_eq!(refusal(&twice), None);
+        twice[..2].copy_from_slice(&[4, 2]);
+        assert_eq!(refusal(&twice), repeated(58));
     }
 
     #[test]
     fn nothing_behind_kind_0_is_looked_at() {
         assert_eq!(refusal(&[1, 0, 2, 99]), None);
+        assert_eq!(skipped(&[99, 2, 0, 99, 2, 99, 2, 0]), 1);
+        assert_eq!(skipped(&[0, 99, 2, 0]), 0);
+    }
+
+    #[test]
+    fn unknown_options_are_counted() {
+        assert_eq!(skipped(&[]), 0);
+        assert_eq!(skipped(&[99, 4, 98, 2]), 1);
+        assert_eq!(skipped(&[99, 2, 99, 2]), 2);
+        assert_eq!(skipped(&[1, 99, 2, 1, 6, 3, 0, 1]), 2);
+        assert_eq!(skipped(&[255, 2].repeat(20)), 20);
+        let mut whole_room = [0; 40];
+        whole_room[..2].copy_from_slice(&[99, 40]);
+        assert_eq!(skipped(&whole_room), 1);
+    }
+
+    #[test]
+    fn known_options_are_not_counted() {
+        let stamps = [8, 10, 0, 0, 0, 0, 0, 0, 0, 0];
+        let sack = [5, 10, 0, 0, 0, 0, 0, 0, 0, 0];
+        let known = [&[2, 4, 0, 0, 3, 3, 0, 4, 2][..], &stamps, &sack].concat();
+        assert_eq!(skipped(&known), 0);
+        let between = [&[99, 2, 4, 2, 98, 3, 0][..], &stamps, &[6, 2, 3, 3, 0]].concat();
+        assert_eq!(skipped(&between), 3);
     }
 
     #[test]
     fn sack_blocks_are_read_in_order() {
-        let list = [5, 18, 0, 0, 0, 1, 0, 0, 0, 2, 0, 0, 0, 3, 0, 0, 0, 4, 0, 0];
-        let blocks = Options::read(&list).unwrap().sack;
+        let header = header(&[5, 18, 0, 0, 0, 1, 0, 0, 0, 2, 0, 0, 0, 3, 0, 0, 0, 4, 0, 0]);
+        let blocks = Options::read(&header).unwrap().sack;
         let edges: Vec<_> = blocks.iter().map(|b| (b.left.0, b.right.0)).collect();
         assert_eq!(edges, [(1, 2), (3, 4)]);
     }

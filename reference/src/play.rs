@@ -9,7 +9,7 @@ use crate::script::{Call, Calls};
 use crate::segment::{find_option, refusal_number, Segment};
 use crate::serial::distance;
 use crate::timer::{milliseconds, Timer};
-use crate::verdict::{Taken, Verdict};
+use crate::verdict::{Judged, Taken, Verdict};
 
 /// The line for a call that cannot be decoded.
 pub const BAD_LINE: &str = "bad\n";
@@ -58,8 +58,10 @@ impl Player {
             }
             Call::Open { opening, segment } => {
                 let opened = Connection::open(&opening, segment);
-                writeln!(out, "open {}", number(&opened))?;
-                self.connection = opened.ok().or(self.connection);
+                let place_or_count = Where(opened.map(|opened| opened.skipped));
+                writeln!(out, "open {} {}", number(&opened), place_or_count)?;
+                let connection = opened.ok().map(|opened| opened.connection);
+                self.connection = connection.or(self.connection);
                 self.write_record(out)
             }
             Call::Timer => {
@@ -149,27 +151,44 @@ fn number<T>(result: &Result<T, Refusal>) -> u8 {
 }
 
 fn write_read(octets: &[u8], out: &mut String) -> fmt::Result {
-    match Segment::read(octets) {
-        Ok(segment) => writeln!(out, "read 0 {}", SegmentFields(&segment)),
-        Err(refusal) => writeln!(out, "read {}", refusal.number()),
+    let read = Segment::read(octets);
+    write!(out, "read {}", number(&read))?;
+    if let Ok(segment) = &read {
+        write!(out, " {}", SegmentFields(segment))?;
     }
+    let place_or_count = Where(read.map(|segment| segment.options.skipped));
+    writeln!(out, " {}", place_or_count)
 }
 
-fn write_arrive(arrived: Result<Verdict, Refusal>, out: &mut String) -> fmt::Result {
-    let (number, taken) = match arrived {
+fn write_arrive(arrived: Result<Judged, Refusal>, out: &mut String) -> fmt::Result {
+    let (number, taken) = match arrived.map(|judged| judged.verdict) {
         Ok(Verdict::Take(taken)) => (0, taken),
         Ok(verdict) => (verdict.number(), Taken::default()),
         Err(refusal) => (refusal.number(), Taken::default()),
     };
     writeln!(
         out,
-        "arrive {} {} {} {} {}",
+        "arrive {} {} {} {} {} {}",
         number,
         taken.part.offset,
         taken.part.length,
         u8::from(taken.part.fin),
         Ranges(taken.sack.iter()),
+        Where(arrived.map(|judged| judged.skipped)),
     )
+}
+
+/// The last field of a line about a segment: how many unknown options were skipped, the place of the option at fault,
+/// or `-` for a refusal that has none.
+struct Where(Result<u8, Refusal>);
+
+impl Display for Where {
+    fn fmt(&self, f: &mut fmt::Formatter) -> fmt::Result {
+        match self.0 {
+            Ok(skipped) => skipped.fmt(f),
+            Err(refusal) => OrDash(refusal.place().map(|place| place.0)).fmt(f),
+        }
+    }
 }
 
 /// Octets as hexadecimal digits run together, `-` where there are none.
@@ -290,6 +309,7 @@ impl Display for TimerFields<'_> {
 #[cfg(test)]
 mod tests {
     use super::*;
+    use crate::cases::{data, opening, syn, CLOCK, NEXT};
 
     fn play_calls(calls: &[Call]) -> String {
         let mut script = Vec::new();
@@ -339,7 +359,64 @@ mod tests {
         segment[12] = 0x5f;
         segment[13] = 0x10;
         let line = play_calls(&[Call::Read { segment: &segment }]);
-        assert_eq!(line, "read 0 0 0 0 0 16 0 0 - - 0 - - 0 20 1\n");
+        assert_eq!(line, "read 0 0 0 0 0 16 0 0 - - 0 - - 0 20 1 0\n");
+    }
+
+    /// The lines, but for the record's, about segments with these options: read, opened from, arriving.
+    fn lines_about(options: &[u8]) -> Vec<String> {
+        let (opening, clock) = (opening(), CLOCK);
+        let segment = &data(NEXT, 0).options(options).build();
+        let lines = play_calls(&[
+            Call::Open {
+                opening,
+                segment: &syn().build(),
+            },
+            Call::Read { segment },
+            Call::Open {
+                opening,
+                segment: &syn().options(options).build(),
+            },
+            Call::Arrive { clock, segment },
+        ]);
+        let about = lines.lines().filter(|line| !line.starts_with("record"));
+        about.skip(1).map(str::to_owned).collect()
+    }
+
+    #[test]
+    fn a_count_ends_the_lines() {
+        let lines = lines_about(&[99, 2, 1, 98, 3, 0]);
+        let read = "read 0 12345 443 5000 1001 16 8192 0 - - 0 - - 0 28 0 2";
+        assert_eq!(lines, [read, "open 0 2", "arrive 0 0 0 0 0 2"]);
+    }
+
+    #[test]
+    fn a_place_ends_the_lines() {
+        let lines = lines_about(&[99, 2, 99, 1]);
+        assert_eq!(lines, ["read 4 22", "open 4 22", "arrive 4 0 0 0 0 22"]);
+        let lines = lines_about(&[1, 4, 3, 0]);
+        assert_eq!(lines, ["read 5 21", "open 5 21", "arrive 5 0 0 0 0 21"]);
+        let lines = lines_about(&[4, 2, 99, 2, 4, 2]);
+        assert_eq!(lines, ["read 6 24", "open 6 24", "arrive 6 0 0 0 0 24"]);
+    }
+
+    #[test]
+    fn other_refusals_end_in_a_dash() {
+        let opening = opening();
+        let segment = &data(NEXT, 0).options(&[99, 2]).build();
+        let lines = play_calls(&[
+            Call::Read { segment: &[] },
+            Call::Open { opening, segment },
+            Call::Open {
+                opening,
+                segment: &syn().build(),
+            },
+            Call::Arrive {
+                clock: CLOCK - 1,
+                segment,
+            },
+        ]);
+        assert!(lines.starts_with("read 1 -\nopen 10 -\nrecord -\nopen 0 0\n"));
+        assert!(lines.contains("\narrive 8 0 0 0 0 -\n"));
     }
 
     #[test]

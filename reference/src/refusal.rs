@@ -1,26 +1,55 @@
 //! The refusals E1 to E14.
 
-/// Why a call was refused; the discriminant is the refusal's number.
+/// Where the kind octet of an option stands, counted from the segment's first octet.
+#[derive(Clone, Copy, Debug, PartialEq, Eq)]
+pub struct Place(pub u8);
+
+/// Why a call was refused. The three faults of an option say where it stands; no other refusal has a place.
 #[derive(Clone, Copy, Debug, PartialEq, Eq)]
 pub enum Refusal {
-    SegmentTooShort = 1,
-    SegmentTooLong = 2,
-    DataOffset = 3,
-    OptionBounds = 4,
-    OptionLength = 5,
-    OptionRepeated = 6,
-    BufferTooShort = 7,
-    ClockWentBack = 8,
-    OwnOffer = 9,
-    NotAnOpeningSyn = 10,
-    WrongOpeningAck = 11,
-    BeyondSendWindow = 12,
-    ReceiveWindow = 13,
-    SampleTooLong = 14,
+    SegmentTooShort,
+    SegmentTooLong,
+    DataOffset,
+    OptionBounds(Place),
+    OptionLength(Place),
+    OptionRepeated(Place),
+    BufferTooShort,
+    ClockWentBack,
+    OwnOffer,
+    NotAnOpeningSyn,
+    WrongOpeningAck,
+    BeyondSendWindow,
+    ReceiveWindow,
+    SampleTooLong,
 }
 
 impl Refusal {
     pub fn number(self) -> u8 {
-        self as u8
+        match self {
+            Refusal::SegmentTooShort => 1,
+            Refusal::SegmentTooLong => 2,
+            Refusal::DataOffset => 3,
+            Refusal::OptionBounds(_) => 4,
+            Refusal::OptionLength(_) => 5,
+            Refusal::OptionRepeated(_) => 6,
+            Refusal::BufferTooShort => 7,
+            Refusal::ClockWentBack => 8,
+            Refusal::OwnOffer => 9,
+            Refusal::NotAnOpeningSyn => 10,
+            Refusal::WrongOpeningAck => 11,
+            Refusal::BeyondSendWindow => 12,
+            Refusal::ReceiveWindow => 13,
+            Refusal::SampleTooLong => 14,
+        }
+    }
+
+    /// The place of the option at fault.
+    pub fn place(self) -> Option<Place> {
+        match self {
+            Refusal::OptionBounds(place)
+            | Refusal::OptionLength(place)
+            | Refusal::OptionRepeated(place) => Some(place),
+            _ => None,
+        }
     }
 }

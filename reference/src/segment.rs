@@ -64,7 +64,7 @@ impl<'a> Segment<'a> {
             flags: Flags(octets[13]),
             window: u16_at(octets, 14),
             urgent: u16_at(octets, 18),
-            options: Options::read(&octets[HEADER_LENGTH..payload_offset])?,
+            options: Options::read(&octets[..payload_offset])?,
             payload_offset,
             payload: &octets[payload_offset..],
         })
@@ -103,9 +103,10 @@ pub fn refusal_number(octets: &[u8]) -> u8 {
 pub fn find_option<'a>(octets: &'a [u8], kinds: &[u8]) -> &'a [u8] {
     match Segment::read(octets) {
         // The walk never gives kinds 0 and 1, so these match nothing.
-        Ok(segment) => Walk::new(&octets[HEADER_LENGTH..segment.payload_offset])
+        Ok(segment) => Walk::new(&octets[..segment.payload_offset])
             .flatten()
-            .find(|option| kinds.contains(&option[0]))
+            .map(|option| option.octets)
+            .find(|octets| kinds.contains(&octets[0]))
             .unwrap_or(&[]),
         Err(_) => &[],
     }
@@ -114,6 +115,7 @@ pub fn find_option<'a>(octets: &'a [u8], kinds: &[u8]) -> &'a [u8] {
 #[cfg(test)]
 mod tests {
     use super::*;
+    use crate::refusal::Place;
 
     fn header(offset: u8, length: usize) -> Vec<u8> {
         let mut octets = vec![0; length];
@@ -146,6 +148,16 @@ mod tests {
         assert_eq!(refusal_number(&octets), 4);
         octets[21] = 4;
         assert_eq!(refusal_number(&octets), 0);
+    }
+
+    #[test]
+    fn places_count_from_the_first_octet_and_counts_are_fields() {
+        let mut octets = header(7, 30);
+        octets[20..28].copy_from_slice(&[99, 2, 1, 98, 2, 4, 3, 0]);
+        let fault = Refusal::OptionLength(Place(25));
+        assert_eq!(Segment::read(&octets), Err(fault));
+        octets[26] = 2;
+        assert_eq!(Segment::read(&octets).unwrap().options.skipped, 2);
     }
 
     #[test]

@@ -4,6 +4,13 @@ use crate::options::BlocksInPlace;
 use crate::ranges::Range;
 use crate::serial::Seq;
 
+/// The verdict on a segment that is not refused, whatever it is, and how many unknown options were skipped.
+#[derive(Clone, Copy, Debug, PartialEq, Eq)]
+pub struct Judged<'a> {
+    pub verdict: Verdict<'a>,
+    pub skipped: u8,
+}
+
 /// What is done with a segment.
 #[derive(Clone, Copy, Debug, PartialEq, Eq)]
 pub enum Verdict<'a> {

@@ -79,6 +79,7 @@ module _ (k : Connection) (ports : Ports) (clock : ℕ) where
           blocks = blocks i;
           timestamps = options .timestamps;
         };
+        skipped = 0;
         payload = record { start = sym size i; length = 0 };
         len = 0;
       }

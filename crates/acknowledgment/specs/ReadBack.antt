@@ -12,7 +12,7 @@ use Rattle.acknowledgment.specs.Acknowledgment.{ownHeader, onlyAck, ownO
 abbrev pub ownOctets : Connection → Ports → ℕ → List ℕ
 ownOctets k ports clock = written (ownHeader k ports) (ownOptions k clock)
 
--- every field, and no payload
+-- every field, no other option, and no payload
 unfoldable pub ownSegment : Connection → Ports → ℕ → Segment
 ownSegment k ports clock = record {
   source = ports .source;
@@ -23,6 +23,7 @@ ownSegment k ports clock = record {
   window = windowField (k .receive);
   urgent = 0;
   options = ownOptions k clock;
+  skipped = 0;
   payload = record { start = length (ownOctets k ports clock); length = 0 };
   len = 0;
 }

@@ -25,7 +25,7 @@ pub fn make(connection: Connection, octets: &[u8], from: usize, end: usize, call
         let reading = segment::read(stream::part(octets, at, skip, next));
         match reading {
             Reading::Refused(why) => {
-                sum = sums::add(sum, why.number() as u64);
+                sum = sums::add(sum, sums::refusal(why));
             }
             Reading::Segment(s) => match call {
                 1 => {

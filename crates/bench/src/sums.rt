@@ -1,11 +1,13 @@
 // What is added up of each answer, so that no part of it can be left out of the measured work. Sums are modulo 2^64.
 use connection::Arrival;
+use connection::ArriveOutcome;
 use connection::Connection;
 use offers::Scale;
 use receive::Part;
 use segment::Flags;
 use segment::Mss;
 use segment::Options;
+use segment::Refusal;
 use segment::SackBlocks;
 use segment::Segment;
 use segment::Timestamps;
@@ -37,8 +39,16 @@ pub fn arrival(arrival: Arrival) -> u64 {
     let outcome = arrival.outcome;
     let part = arrival.part;
     let listed = arrival.blocks;
-    let number = outcome.number() as u64;
-    add_four(number, new_part(part), one_if(arrival.fin), blocks(listed))
+    let judged = add(outcome.number() as u64, skipped(outcome));
+    add_four(judged, new_part(part), one_if(arrival.fin), blocks(listed))
+}
+
+// A refusal has no place here: the segment has been read, so that only E8 is left.
+fn skipped(outcome: ArriveOutcome) -> u64 {
+    match outcome {
+        ArriveOutcome::Judged(_, count) => count as u64,
+        ArriveOutcome::Refused(_) => 0,
+    }
 }
 
 // The offset and the length.
@@ -58,13 +68,30 @@ pub fn record(k: Connection) -> u64 {
     )
 }
 
+// Of a segment that cannot be read.
+pub fn refusal(why: Refusal) -> u64 {
+    add(why.number() as u64, place(why))
+}
+
+fn place(why: Refusal) -> u64 {
+    match why {
+        Refusal::TooShort => 0,
+        Refusal::TooLong => 0,
+        Refusal::BadDataOffset => 0,
+        Refusal::BrokenOption(place) => place as u64,
+        Refusal::WrongOptionLength(place) => place as u64,
+        Refusal::RepeatedOption(place) => place as u64,
+    }
+}
+
 // Of a segment that can be read.
 pub fn segment(s: Segment) -> u64 {
     let flags = s.flags;
     let said = s.options;
     let payload = s.payload;
     let place = add(payload.start as u64, wide(payload.length));
-    add_four(header(s), set(flags), options(said), place)
+    let counts = add(set(flags), s.skipped as u64);
+    add_four(header(s), counts, options(said), place)
 }
 
 fn header(s: Segment) -> u64 {

@@ -1,7 +1,6 @@
 -- Every operation gives back a sound record. Assumes nothing.
-use mathlib.Core.Bool.{false}
 use mathlib.Core.List.{List}
-use mathlib.Core.Path.{_≡_}
+use mathlib.Core.Option.{none}
 use Prim.Native.Nat.{ℕ}
 use native.Mathlib.Omega.{arith}
 use lib.Dec.{ltb}
@@ -48,20 +47,20 @@ module _ (own : Setup) (clock : ℕ) where
   opening-from-sound : (syn : Segment) → Sound (openingFrom own clock syn .connection)
   unfolding openingFrom
   opening-from-sound syn =
-      either SoundOpening (isNotSyn syn) (refusedOpening 10) _ (λ _. blank-sound)
-      (λ _. either SoundOpening (isWrongAck (own .iss .0) syn) (refusedOpening 11) _ (λ _. blank-sound) (λ _. record-sound syn))
+      either SoundOpening (isNotSyn syn) (refusedOpening 10 none) _ (λ _. blank-sound)
+      (λ _. either SoundOpening (isWrongAck (own .iss .0) syn) (refusedOpening 11 none) _ (λ _. blank-sound) (λ _. record-sound syn))
 
   pub opening-read-sound : (syn : Segment) → Sound (openingRead own clock syn .connection)
   unfolding openingRead
   opening-read-sound syn =
-      either SoundOpening (exceedsLimits own) (refusedOpening 9) _ (λ _. blank-sound) (λ _. opening-from-sound syn)
+      either SoundOpening (exceedsLimits own) (refusedOpening 9 none) _ (λ _. blank-sound) (λ _. opening-from-sound syn)
 
   pub opening-sound : (octets : List ℕ) → Sound (opening own clock octets .connection)
   unfolding opening
   opening-sound octets =
-      either SoundOpening (exceedsLimits own) (refusedOpening 9) _ (λ _. blank-sound)
+      either SoundOpening (exceedsLimits own) (refusedOpening 9 none) _ (λ _. blank-sound)
       (λ _.
-      if-some SoundOpening (reading octets .fields) (refusedOpening (reading octets .number)) (openingFrom own clock) blank-sound
+      if-some SoundOpening (reading octets .fields) (refusedOpening (reading octets .number) (reading octets .place)) (openingFrom own clock) blank-sound
       opening-from-sound)
 
 abbrev pub SoundArrival : Arrival → Type 0

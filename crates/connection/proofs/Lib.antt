@@ -2,6 +2,7 @@ pub mod Incoming
 pub mod Openings
 pub mod Table
 pub mod Rows
+pub mod PassedOn
 pub mod OnlyTake
 pub mod Taken
 pub mod Changes

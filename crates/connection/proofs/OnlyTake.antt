@@ -1,7 +1,8 @@
--- Only take changes the record (house), and a refusal is its number alone. Assumes nothing.
+-- Only take changes the record (house), and a refusal is its number, with the place of the option at fault if reading gave one, and nothing
+-- else. Assumes nothing.
 use mathlib.Core.Bool.{true, false, false≢true}
 use mathlib.Core.List.{List}
-use mathlib.Core.Path.{_≡_, refl, sym}
+use mathlib.Core.Path.{_≡_, refl, sym, _∙_}
 use Prim.Native.Nat.{ℕ}
 use lib.Dec.{ltb}
 use Rattle.receive.specs.Window as receive
@@ -13,18 +14,20 @@ use Rattle.connection.specs.declared.Setup.{Setup}
 use Rattle.connection.specs.Numbers.{Decision, refuse}
 use Rattle.connection.specs.Opening.{OpeningAnswer, exceedsLimits, isNotSyn, isWrongAck, opening, openingFrom, openingRead, refusedOpening}
 use Rattle.connection.specs.Verdict.{decided, rows}
-use Rattle.connection.specs.Arriving.{Arrival, arriving, arrivingRead, isTake, judged, settled, takenBy, unchanged}
+use Rattle.connection.specs.Arriving.{Arrival, arriving, arrivingRead, isTake, judged, refusing, settled, takenBy, unchanged}
 use Rattle.connection.specs.Operations.{sent, windowOpened, withReceive, withSend}
+use Rattle.connection.specs.Calls.{unread}
 use Rattle.laws.proofs.Choices.{either, if-some}
+use Rattle.connection.proofs.PassedOn.{place-passed, refusal-skips-none}
 
 -- what is not taken leaves the record, and has no part, no FIN and no blocks
 abbrev Leaves : Connection → Arrival → Type 0
-Leaves k a = isTake (a .decision .action) ≡ false → a ≡ unchanged k (a .decision)
+Leaves k a = isTake (a .decision .action) ≡ false → a ≡ unchanged k (a .decision) (a .place) (a .skipped)
 
 settled-leaves : (k : Connection) (clock : ℕ) (s : Segment) (d : Decision) → Leaves k (settled k clock s d)
 unfolding settled takenBy
 settled-leaves k clock s d =
-    either (Leaves k) (isTake (d .action)) (takenBy k clock s) (unchanged k d) (λ _ e. absurd (false≢true (sym e))) (λ _ e. refl)
+    either (Leaves k) (isTake (d .action)) (takenBy k clock s) _ (λ _ e. absurd (false≢true (sym e))) (λ _ e. refl)
 
 pub only-take-read : (k : Connection) (clock : ℕ) (s : Segment) → Leaves k (arrivingRead k clock s)
 unfolding arrivingRead judged
@@ -36,12 +39,16 @@ unfolding arriving
 only-take k clock octets = if-some (Leaves k) (reading octets .fields) _ (arrivingRead k clock) (λ e. refl) (only-take-read k clock)
 
 pub refusal-leaves : (k : Connection) (clock : ℕ) (octets : List ℕ) → arriving k clock octets .decision .action ≡ refuse
-    → arriving k clock octets ≡ unchanged k (arriving k clock octets .decision)
-refusal-leaves k clock octets e = only-take k clock octets (rw e refl)
+    → arriving k clock octets ≡ refusing k (arriving k clock octets .decision .number) (reading octets .place)
+refusal-leaves k clock octets e =
+    let place = place-passed k clock (unread octets) in
+    let skipped = refusal-skips-none k clock (unread octets) e in
+    only-take k clock octets (rw e refl)
+    ∙ (λ i. unchanged k (record { number = arriving k clock octets .decision .number; action = e i }) (place i) (skipped i))
 
 -- a refused opening gives the blank record
 abbrev Blank : OpeningAnswer → Type 0
-Blank a = (a .number ≡ 0 → ⊥) → a ≡ refusedOpening (a .number)
+Blank a = (a .number ≡ 0 → ⊥) → a ≡ refusedOpening (a .number) (a .place)
 
 module _ (own : Setup) (clock : ℕ) where
   opening-from-refusal : (syn : Segment) → Blank (openingFrom own clock syn)

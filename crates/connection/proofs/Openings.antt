@@ -3,7 +3,7 @@
 use mathlib.Core.Bool.{Bool, true, false, cond, not, and-false, or-true}
 use mathlib.Core.List.{List, []}
 use mathlib.Core.Logic.{_⊎_, inl, inr}
-use mathlib.Core.Option.{Option, none, some, Option·elim}
+use mathlib.Core.Option.{none, some, Option·elim}
 use mathlib.Core.Path.{_≡_, refl, sym, ap, subst, _∙_}
 use Prim.Native.Nat.{ℕ, _+_, _%_, _^_, _<_}
 use native.Mathlib.Omega.{arith}
@@ -54,9 +54,9 @@ module _ (own : Setup) (clock : ℕ) where
   pub limits-refused : (i : Incoming) → exceedLimits (own .offers) (own .window) ≡ true → openedBy own clock i .number ≡ 9
   unfolding opening openingRead
   limits-refused (unread octets) exceeds =
-      let read = Option·elim (reading octets .fields) (refusedOpening (reading octets .number)) (openingFrom own clock) in
-      ap (λ b. cond b (refusedOpening 9) read .number) exceeds
-  limits-refused (read syn) exceeds = ap (λ b. cond b (refusedOpening 9) (openingFrom own clock syn) .number) exceeds
+      let read = Option·elim (reading octets .fields) (refusedOpening (reading octets .number) (reading octets .place)) (openingFrom own clock) in
+      ap (λ b. cond b (refusedOpening 9 none) read .number) exceeds
+  limits-refused (read syn) exceeds = ap (λ b. cond b (refusedOpening 9 none) (openingFrom own clock syn) .number) exceeds
 
   module _ (within : exceedLimits (own .offers) (own .window) ≡ false) where
     -- reading's refusals

@@ -21,7 +21,7 @@ use Rattle.connection.specs.Record.{Sound, blank}
 use Rattle.connection.specs.Opening.{OpeningAnswer, exceedsLimits, isNotSyn, isWrongAck, opening, openingFrom, openingRead, recordFrom, recordWith}
 use Rattle.connection.specs.Verdict.{decided, rows}
 use Rattle.connection.specs.Taking.{fedBy, recordAfter}
-use Rattle.connection.specs.Arriving.{arriving, arrivingRead, isTake, judged, refusedWith, settled, takenBy, unchanged}
+use Rattle.connection.specs.Arriving.{arriving, arrivingRead, isTake, judged, notTaken, refusing, settled, takenBy}
 use Rattle.connection.specs.Operations.{acknowledged, expired, sent, windowOpened}
 use Rattle.connection.specs.Calls.{Call, Incoming, Opened, acknowledgment, arrival, called, expiry, openedBy, read, run, sending, timerCall, timerCalls, unread, window}
 use Rattle.connection.specs.Demand.{Demand3, SoundAlways, TimerFollows}
@@ -38,30 +38,30 @@ module _ (k : Connection) (clock : ℕ) where
   settled-timer s d = pick (isTake (d .action)) refl
     where
       pick : (t : Bool) → isTake (d .action) ≡ t
-          → cond t (takenBy k clock s) (unchanged k d) .connection .timer
-          ≡ rto.run (k .timer) (cond (isTake (cond t (takenBy k clock s) (unchanged k d) .decision .action)) (fedBy k clock s) [])
+          → cond t (takenBy k clock s) (notTaken k s d) .connection .timer
+          ≡ rto.run (k .timer) (cond (isTake (cond t (takenBy k clock s) (notTaken k s d) .decision .action)) (fedBy k clock s) [])
       pick true e = refl
       pick false e = rw e refl
 
-  arrival-timer : (number : ℕ) (fields : Option Segment)
-      → Option·elim fields (unchanged k (refusedWith number)) (arrivingRead k clock) .connection .timer
+  arrival-timer : (number : ℕ) (place : Option ℕ) (fields : Option Segment)
+      → Option·elim fields (refusing k number place) (arrivingRead k clock) .connection .timer
       ≡ rto.run (k .timer)
-      (cond (isTake (Option·elim fields (unchanged k (refusedWith number)) (arrivingRead k clock) .decision .action))
+      (cond (isTake (Option·elim fields (refusing k number place) (arrivingRead k clock) .decision .action))
       (Option·elim fields [] (fedBy k clock)) [])
   unfolding Option·elim arrivingRead judged
-  arrival-timer number none = refl
-  arrival-timer number (some s) = pick (ltb clock (k .timestamping .since))
+  arrival-timer number place none = refl
+  arrival-timer number place (some s) = pick (ltb clock (k .timestamping .since))
     where
-      pick : (b : Bool) → cond b (unchanged k (refusedWith 8)) (judged k clock s) .connection .timer
+      pick : (b : Bool) → cond b (refusing k 8 none) (judged k clock s) .connection .timer
           ≡ rto.run (k .timer)
-          (cond (isTake (cond b (unchanged k (refusedWith 8)) (judged k clock s) .decision .action)) (fedBy k clock s) [])
+          (cond (isTake (cond b (refusing k 8 none) (judged k clock s) .decision .action)) (fedBy k clock s) [])
       pick true = refl
       pick false = settled-timer s (decided (rows k clock s))
 
 called-timer : (k : Connection) (c : Call) → called k c .timer ≡ rto.run (k .timer) (timerCall k c)
 unfolding arriving sent windowOpened expired acknowledged Option·elim
-called-timer k (arrival clock (unread l)) = arrival-timer k clock (reading l .number) (reading l .fields)
-called-timer k (arrival clock (read s)) = arrival-timer k clock 0 (some s)
+called-timer k (arrival clock (unread l)) = arrival-timer k clock (reading l .number) (reading l .place) (reading l .fields)
+called-timer k (arrival clock (read s)) = arrival-timer k clock 0 none (some s)
 called-timer k (sending n) = refl
 called-timer k (window n) = refl
 called-timer k expiry = refl

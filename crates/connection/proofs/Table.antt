@@ -2,7 +2,7 @@
 -- that is taken makes each condition false. Beside a row's number stands that row's answer. Assumes nothing.
 use mathlib.Core.Bool.{Bool, true, false, cond, not, _&&_, _||_, and-false, false≢true}
 use mathlib.Core.List.{List, [], _∷_, map}
-use mathlib.Core.Option.{some}
+use mathlib.Core.Option.{Option, none, some}
 use mathlib.Core.Path.{_≡_, refl, sym, ap, _∙_}
 use Prim.Native.Nat.{ℕ, _≤_, _<_}
 use lib.Dec.{eqb, ltb}
@@ -13,7 +13,7 @@ use Rattle.segment.specs.declared.Segment.{Segment}
 use Rattle.connection.specs.declared.Connection.{Connection}
 use Rattle.connection.specs.Numbers.{Action, Decision, refuse, take}
 use Rattle.connection.specs.Verdict.{Row, decided, firstHolds, isGiven, noneHolds, rows}
-use Rattle.connection.specs.Arriving.{Arrival, arrivingRead, isTake, judged, refusedWith, settled, takenBy, unchanged}
+use Rattle.connection.specs.Arriving.{Arrival, arrivingRead, isTake, judged, notTaken, refusing, settled, takenBy, unchanged}
 use Rattle.connection.specs.Calls.{Incoming, arrived, fieldsOf}
 use Rattle.connection.proofs.Incoming.{arrived-by-fields}
 
@@ -140,12 +140,12 @@ module _ (k : Connection) (clock : ℕ) (s : Segment) where
 
   -- a segment that has been read is taken, and then each condition is false, or leaves the record
   pub arriving-cases : (P : Arrival → Type 0) → (((n : ℕ) → condition n (rows k clock s) ≡ false) → P (takenBy k clock s))
-      → ((d : Decision) → isTake (d .action) ≡ false → P (unchanged k d)) → P (arrivingRead k clock s)
+      → ((d : Decision) (place skipped : Option ℕ) → isTake (d .action) ≡ false → P (unchanged k d place skipped)) → P (arrivingRead k clock s)
   unfolding arrivingRead judged settled
   arriving-cases P takes leaves =
-      either P (ltb clock (k .timestamping .since)) _ _ (λ _. leaves (refusedWith 8) refl)
+      either P (ltb clock (k .timestamping .since)) _ _ (λ _. leaves (record { number = 8; action = refuse }) none none refl)
       (λ _.
-      either P (isTake (decided (rows k clock s) .action)) _ _ (λ t. takes (take-clears t)) (λ f. leaves (decided (rows k clock s)) f))
+      either P (isTake (decided (rows k clock s) .action)) _ _ (λ t. takes (take-clears t)) (λ f. leaves (decided (rows k clock s)) none (some (s .skipped)) f))
 
   -- it is taken where none holds
   pub taken-if : k .timestamping .since ≤ clock → noneHolds (rows k clock s) ≡ true → arrivingRead k clock s ≡ takenBy k clock s
@@ -158,7 +158,7 @@ module _ (k : Connection) (clock : ℕ) (s : Segment) where
   judged-decision = pick (isTake (decided (rows k clock s) .action)) refl
     where
       pick : (t : Bool) → isTake (decided (rows k clock s) .action) ≡ t
-          → cond t (takenBy k clock s) (unchanged k (decided (rows k clock s))) .decision ≡ decided (rows k clock s)
+          → cond t (takenBy k clock s) (notTaken k s (decided (rows k clock s))) .decision ≡ decided (rows k clock s)
       pick true t = sym (taken-last (rows k clock s) table-fits t)
       pick false t = refl
 
@@ -174,7 +174,7 @@ module _ (k : Connection) (clock : ℕ) (s : Segment) where
     unfolding arrivingRead
     action-of-row timely =
         let is-judged : arrived k clock i ≡ judged k clock s =
-        arrived-by-fields k clock i s is ∙ ap (λ b. cond b (unchanged k (refusedWith 8)) (judged k clock s)) (le-ltb clock (k .timestamping .since) timely) in
+        arrived-by-fields k clock i s is ∙ ap (λ b. cond b (refusing k 8 none) (judged k clock s)) (le-ltb clock (k .timestamping .since) timely) in
         let decides : arrived k clock i .decision ≡ decided (rows k clock s) = ap (λ (a : Arrival). a .decision) is-judged ∙ judged-decision in
         ap (λ (d : Decision). d .action) decides ∙ action-given (rows k clock s) table-fits
         ∙ ap (λ (d : Decision). actionOf (d .number) (rows k clock s)) (sym decides)

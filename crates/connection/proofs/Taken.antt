@@ -75,7 +75,7 @@ module _ (k : Connection) (clock : ℕ) (i : Incoming) (s : Segment) (is : field
     (takes : isTake (arrived k clock i .decision .action) ≡ true) where
   taken-as : arrived k clock i ≡ takenBy k clock s
   taken-as =
-      by ∙ arriving-cases k clock s Taken (λ _ t. refl) (λ d drops t. absurd (false≢true (sym drops ∙ t)))
+      by ∙ arriving-cases k clock s Taken (λ _ t. refl) (λ d place skipped drops t. absurd (false≢true (sym drops ∙ t)))
       (sym (ap (λ (a : Arrival). isTake (a .decision .action)) by) ∙ takes)
     where
       by : arrived k clock i ≡ arrivingRead k clock s
@@ -109,7 +109,7 @@ module _ (k : Connection) (clock : ℕ) (i : Incoming) (s : Segment) (is : field
   room : lacksRoom (k .receive) (s .seq .0) (s .len) ≡ false
   unfolding rows
   room =
-      arriving-cases k clock s Roomy (λ clear _. clear 30) (λ d drops t. absurd (false≢true (sym drops ∙ t)))
+      arriving-cases k clock s Roomy (λ clear _. clear 30) (λ d place skipped drops t. absurd (false≢true (sym drops ∙ t)))
       (sym (ap (λ (a : Arrival). isTake (a .decision .action)) (arrived-by-fields k clock i s is)) ∙ takes)
     where
       Roomy : Arrival → Type 0

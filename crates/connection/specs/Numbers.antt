@@ -1,6 +1,7 @@
--- Document 01's number, and what is done, for each case of the enums.
+-- Document 01's number, what is done, and what is passed on of reading the options, for each case of the enums.
+use mathlib.Core.Option.{Option, none, some}
 use Prim.Native.Nat.{ℕ}
-use Rattle.segment.specs.Reading.{numberOf}
+use Rattle.segment.specs.Reading.{faultPlace, numberOf}
 use Rattle.connection.specs.declared.ArriveOutcome.{ArriveOutcome}
 use Rattle.connection.specs.declared.ArriveRefusal.{ArriveRefusal}
 use Rattle.connection.specs.declared.OpenOutcome.{OpenOutcome}
@@ -14,9 +15,25 @@ openRefusalNumber (OpenRefusal.Segment why) = numberOf why
 openRefusalNumber OpenRefusal.NotSyn = 10
 openRefusalNumber OpenRefusal.WrongAck = 11
 
+-- the place of the option at fault
+abbrev pub openRefusalPlace : OpenRefusal → Option ℕ
+openRefusalPlace OpenRefusal.ExceededLimits = none
+openRefusalPlace (OpenRefusal.Segment why) = faultPlace why
+openRefusalPlace OpenRefusal.NotSyn = none
+openRefusalPlace OpenRefusal.WrongAck = none
+
 abbrev pub openNumber : OpenOutcome → ℕ
-openNumber OpenOutcome.Opened = 0
+openNumber (OpenOutcome.Opened skipped) = 0
 openNumber (OpenOutcome.Refused why) = openRefusalNumber why
+
+abbrev pub openPlace : OpenOutcome → Option ℕ
+openPlace (OpenOutcome.Opened skipped) = none
+openPlace (OpenOutcome.Refused why) = openRefusalPlace why
+
+-- how many unknown options were skipped
+abbrev pub openSkipped : OpenOutcome → Option ℕ
+openSkipped (OpenOutcome.Opened skipped) = some skipped
+openSkipped (OpenOutcome.Refused why) = none
 
 abbrev pub reasonNumber : Reason → ℕ
 reasonNumber Reason.TimestampMissing = 21
@@ -48,6 +65,18 @@ abbrev pub arriveRefusalNumber : ArriveRefusal → ℕ
 arriveRefusalNumber (ArriveRefusal.Segment why) = numberOf why
 arriveRefusalNumber ArriveRefusal.ClockBack = 8
 
+abbrev pub arriveRefusalPlace : ArriveRefusal → Option ℕ
+arriveRefusalPlace (ArriveRefusal.Segment why) = faultPlace why
+arriveRefusalPlace ArriveRefusal.ClockBack = none
+
 abbrev pub outcomeOf : ArriveOutcome → Decision
-outcomeOf (ArriveOutcome.Judged verdict) = verdictOf verdict
+outcomeOf (ArriveOutcome.Judged verdict skipped) = verdictOf verdict
 outcomeOf (ArriveOutcome.Refused why) = record { number = arriveRefusalNumber why; action = refuse }
+
+abbrev pub outcomePlace : ArriveOutcome → Option ℕ
+outcomePlace (ArriveOutcome.Judged verdict skipped) = none
+outcomePlace (ArriveOutcome.Refused why) = arriveRefusalPlace why
+
+abbrev pub outcomeSkipped : ArriveOutcome → Option ℕ
+outcomeSkipped (ArriveOutcome.Judged verdict skipped) = some skipped
+outcomeSkipped (ArriveOutcome.Refused why) = none

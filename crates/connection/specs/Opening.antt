@@ -1,7 +1,7 @@
 -- Opening a record (document 01, "Opening", and E9, E10, E11).
 use mathlib.Core.Bool.{Bool, cond, not, _&&_, _||_}
 use mathlib.Core.List.{List}
-use mathlib.Core.Option.{Option·elim}
+use mathlib.Core.Option.{Option, none, some, Option·elim}
 use Prim.Native.Nat.{ℕ}
 use lib.Dec.{eqb}
 use Rattle.serial.specs.Serial.{movedBy}
@@ -21,7 +21,7 @@ use Rattle.timestamps.specs.declared.Tsval.{Tsval}
 use Rattle.connection.specs.declared.Connection.{Connection}
 use Rattle.connection.specs.declared.OpenAnswer.{OpenAnswer}
 use Rattle.connection.specs.declared.Setup.{Setup}
-use Rattle.connection.specs.Numbers.{openNumber}
+use Rattle.connection.specs.Numbers.{openNumber, openPlace, openSkipped}
 use Rattle.connection.specs.Record.{blank}
 
 -- the fields of a segment that the send side takes, and those that the timestamps take
@@ -71,30 +71,38 @@ recordWith force own clock syn = record {
 unfoldable pub recordFrom : Setup → ℕ → Segment → Connection
 recordFrom own clock syn = recordWith (inForce (own .offers) (peerOffers syn)) own clock syn
 
--- the answer to an opening in document 01's terms: 0 or the refusal's number, and the record
+-- the answer to an opening in document 01's terms: 0 or the refusal's number, and the record; with E4, E5 and E6 the place in the segment of
+-- the kind octet at fault, with an opened record how many unknown options were skipped
 pub record OpeningAnswer : Type 0 where
   pub number : ℕ
+  pub place : Option ℕ
+  pub skipped : Option ℕ
   pub connection : Connection
 
--- a refused opening answers its number beside the blank record
-abbrev pub refusedOpening : ℕ → OpeningAnswer
-refusedOpening number = record { number = number; connection = blank }
+-- a refused opening answers its number, and the place if there is one, beside the blank record
+abbrev pub refusedOpening : ℕ → Option ℕ → OpeningAnswer
+refusedOpening number place = record { number = number; place = place; skipped = none; connection = blank }
 
 unfoldable pub openingFrom : Setup → ℕ → Segment → OpeningAnswer
 openingFrom own clock syn =
-    cond (isNotSyn syn) (refusedOpening 10)
-    (cond (isWrongAck (own .iss .0) syn) (refusedOpening 11)
-    (record { number = 0; connection = recordFrom own clock syn }))
+    cond (isNotSyn syn) (refusedOpening 10 none)
+    (cond (isWrongAck (own .iss .0) syn) (refusedOpening 11 none)
+    (record { number = 0; place = none; skipped = some (syn .skipped); connection = recordFrom own clock syn }))
 
 -- E9, E10, E11, of a segment that has been read
 unfoldable pub openingRead : Setup → ℕ → Segment → OpeningAnswer
-openingRead own clock syn = cond (exceedsLimits own) (refusedOpening 9) (openingFrom own clock syn)
+openingRead own clock syn = cond (exceedsLimits own) (refusedOpening 9 none) (openingFrom own clock syn)
 
 -- E9, reading, E10, E11
 unfoldable pub opening : Setup → ℕ → List ℕ → OpeningAnswer
 opening own clock octets =
-    cond (exceedsLimits own) (refusedOpening 9)
-    (Option·elim (reading octets .fields) (refusedOpening (reading octets .number)) (openingFrom own clock))
+    cond (exceedsLimits own) (refusedOpening 9 none)
+    (Option·elim (reading octets .fields) (refusedOpening (reading octets .number) (reading octets .place)) (openingFrom own clock))
 
 abbrev pub shownOpen : OpenAnswer → OpeningAnswer
-shownOpen a = record { number = openNumber (a .outcome); connection = a .connection }
+shownOpen a = record {
+  number = openNumber (a .outcome);
+  place = openPlace (a .outcome);
+  skipped = openSkipped (a .outcome);
+  connection = a .connection;
+}

@@ -5,7 +5,7 @@ mod opening;
 mod taking;
 
 ghost use mathlib.Core.Path.{_≡_};
-ghost use Rattle.connection.specs.Numbers.{arriveRefusalNumber, openNumber, openRefusalNumber, outcomeOf, reasonNumber, verdictOf};
+ghost use Rattle.connection.specs.Numbers.{arriveRefusalNumber, openNumber, openRefusalNumber, outcomeOf, outcomePlace, outcomeSkipped, reasonNumber, verdictOf};
 ghost use Rattle.connection.specs.Record.{Sound, blank};
 ghost use Rattle.connection.specs.Opening.{opening, openingRead, shownOpen};
 ghost use Rattle.connection.specs.Arriving.{arriving, arrivingRead, isTake, shown, takenBy, unchanged};
@@ -49,7 +49,7 @@ pub struct Setup {
 pub enum OpenRefusal {
     // E9.
     ExceededLimits,
-    // E1 to E6.
+    // E1 to E6, an option at fault with its place.
     Segment(Refusal),
     // E10.
     NotSyn,
@@ -58,7 +58,8 @@ pub enum OpenRefusal {
 }
 
 pub enum OpenOutcome {
-    Opened,
+    // How many unknown options of the SYN segment were skipped.
+    Opened(usize),
     Refused(OpenRefusal),
 }
 
@@ -96,14 +97,15 @@ pub enum Verdict {
 
 // Why an arriving segment is refused.
 pub enum ArriveRefusal {
-    // E1 to E6.
+    // E1 to E6, an option at fault with its place.
     Segment(Refusal),
     // E8.
     ClockBack,
 }
 
 pub enum ArriveOutcome {
-    Judged(Verdict),
+    // The verdict, and how many unknown options of the segment were skipped.
+    Judged(Verdict, usize),
     Refused(ArriveRefusal),
 }
 
@@ -147,7 +149,7 @@ impl OpenOutcome {
         ensures { λ r. ⌜ r ≡ openNumber self ⌝ }
     {
         match self {
-            OpenOutcome::Opened => 0,
+            OpenOutcome::Opened(_) => 0,
             OpenOutcome::Refused(why) => why.number(),
         }
     }
@@ -200,7 +202,7 @@ impl ArriveOutcome {
         ensures { λ r. ⌜ r ≡ outcomeOf self .number ⌝ }
     {
         match self {
-            ArriveOutcome::Judged(verdict) => verdict.number(),
+            ArriveOutcome::Judged(verdict, _) => verdict.number(),
             ArriveOutcome::Refused(why) => why.number(),
         }
     }
@@ -269,7 +271,7 @@ impl Connection {
         if is_take(verdict) {
             return self.take(clock, s);
         }
-        self.unchanged(ArriveOutcome::Judged(verdict))
+        self.unchanged(ArriveOutcome::Judged(verdict, s.skipped))
     }
 
     // Notes that `n` octets were sent.
@@ -322,7 +324,7 @@ impl Connection {
         let fin = self.receive.has_fin(s.seq, s.len, s.flags.fin);
         let connection = taking::record_after(self, clock, s);
         let blocks = listing::listed(connection.sack, connection.send, reported);
-        let outcome = ArriveOutcome::Judged(Verdict::Take);
+        let outcome = ArriveOutcome::Judged(Verdict::Take, s.skipped);
         Arrival {
             outcome,
             part,
@@ -334,7 +336,7 @@ impl Connection {
 
     // The answer that leaves the record as it is.
     fn unchanged(self, outcome: ArriveOutcome) -> Arrival
-        ensures { λ r. ⌜ shown r ≡ unchanged self (outcomeOf outcome) ⌝ }
+        ensures { λ r. ⌜ shown r ≡ unchanged self (outcomeOf outcome) (outcomePlace outcome) (outcomeSkipped outcome) ⌝ }
     {
         let part = Part { from: 0, to: 0 };
         let blocks = SackBlocks::Absent;

@@ -1,6 +1,6 @@
 // Opening a record from the peer's SYN segment.
 ghost use mathlib.Core.Path.{_≡_};
-ghost use Rattle.connection.specs.Numbers.{openRefusalNumber};
+ghost use Rattle.connection.specs.Numbers.{openRefusalNumber, openRefusalPlace};
 ghost use Rattle.connection.specs.Opening.{exceedsLimits, isNotSyn, isWrongAck, mssOf, openingFrom, peerOffers, recordFrom, recordWith, refusedOpening, shownOpen};
 ghost use Rattle.connection.specs.Record.{blank};
 use super::Connection;
@@ -143,7 +143,7 @@ pub fn blank_record() -> Connection
 }
 
 pub fn refused(why: OpenRefusal) -> OpenAnswer
-    ensures { λ r. ⌜ shownOpen r ≡ refusedOpening (openRefusalNumber why) ⌝ }
+    ensures { λ r. ⌜ shownOpen r ≡ refusedOpening (openRefusalNumber why) (openRefusalPlace why) ⌝ }
 {
     let outcome = OpenOutcome::Refused(why);
     let connection = blank_record();
@@ -163,7 +163,7 @@ pub fn open_from(own: Setup, clock: u64, syn: Segment) -> OpenAnswer
     if is_wrong_ack(own.iss, syn) {
         return refused(OpenRefusal::WrongAck);
     }
-    let outcome = OpenOutcome::Opened;
+    let outcome = OpenOutcome::Opened(syn.skipped);
     let connection = record_from(own, clock, syn);
     OpenAnswer {
         outcome,

@@ -2,6 +2,7 @@
 mod body;
 mod input;
 mod letters;
+mod place_or_count;
 mod queries;
 mod record_calls;
 mod state;

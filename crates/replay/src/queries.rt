@@ -1,5 +1,6 @@
 // Calls without a state: reading a segment, finding an option, the distance, and the functions for C.
 use crate::body;
+use crate::place_or_count;
 use crate::state_lines;
 use crate::text;
 use offers::Scale;
@@ -27,7 +28,7 @@ fn read(segment: &[u8]) {
     let reading = segment::read(segment);
     text::start(b"read", reading.number());
     match reading {
-        Reading::Refused(_) => {}
+        Reading::Refused(why) => place_or_count::place(why),
         Reading::Segment(whole) => fields(whole),
     }
 }
@@ -38,6 +39,7 @@ fn fields(s: Segment) {
     let payload = s.payload;
     text::long(payload.start as u64);
     text::number(payload.length);
+    place_or_count::skipped(s.skipped);
 }
 
 fn header_numbers(s: Segment) {

@@ -1,6 +1,7 @@
 // Calls on the connection record: opening it, an arriving segment, octets sent, the receive window, an acknowledgment, expiry.
 ghost use Rattle.connection.specs.Record.{Sound};
 use crate::body;
+use crate::place_or_count;
 use crate::state::State;
 use crate::state_lines;
 use crate::text;
@@ -20,6 +21,7 @@ pub fn open(state: State, body: &[u8]) -> State
     let answer = Connection::open(setup, clock, body::rest(body, 22));
     let outcome = answer.outcome;
     text::start(b"open", outcome.number());
+    place_or_count::of_opening(outcome);
     with_record(state.opened(answer))
 }
 
@@ -71,7 +73,8 @@ fn arrival_numbers(arrival: Arrival) {
     text::start(b"arrive", outcome.number());
     part_numbers(part);
     text::flag(arrival.fin);
-    state_lines::blocks(blocks)
+    state_lines::blocks(blocks);
+    place_or_count::of_arrival(outcome);
 }
 
 // Where a part starts, and how many octets it has; one whose end lies before its start has none.

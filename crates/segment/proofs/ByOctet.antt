@@ -17,7 +17,7 @@ use Rattle.segment.specs.Reading.{dataOffset, optionOctets}
 pub to-the-end : (n : ℕ) (l : List ℕ) → take (length l - n) (drop n l) ≡ drop n l
 to-the-end n l = take-all (length l - n) (drop n l) (simp length-drop (omega arith))
 
-drop-further : (m n : ℕ) (l : List ℕ) → drop n (drop m l) ≡ drop (m + n) l
+pub drop-further : (m n : ℕ) (l : List ℕ) → drop n (drop m l) ≡ drop (m + n) l
 drop-further zero n l = ap (λ (k : ℕ). drop k l) (sym (zero-add n))
 drop-further (suc m) n [] = drop-nil n ∙ sym (drop-nil (suc m + n))
 drop-further (suc m) n (x ∷ xs) = drop-further m n xs ∙ ap (λ (k : ℕ). drop k (x ∷ xs)) (sym (suc-add m n))
@@ -56,10 +56,10 @@ module _ (header : List ℕ) (at : ℕ) where
   abbrev n : ℕ
   n = getD header (at + 1) 0
 
-  kind-there : getD (drop at header) 0 0 ≡ getD header at 0
+  pub kind-there : getD (drop at header) 0 0 ≡ getD header at 0
   kind-there = getD-drop at header 0 0 ∙ ap (λ (k : ℕ). getD header k 0) (add-zero at)
 
-  length-there : getD (drop at header) 1 0 ≡ n
+  pub length-there : getD (drop at header) 1 0 ≡ n
   length-there = getD-drop at header 1 0
 
   pub option-broken : isBroken (drop at header) ≡ true → optionRule at (drop at header) ≡ broken at ∷ []

@@ -1,6 +1,6 @@
 -- E4, E5, E6 at an option, in document 01's words: "option without length octet, length under 2, or past the header", "known kind, wrong
 -- length", "known kind a second time", in this order. Assumes nothing.
-use mathlib.Core.Bool.{Bool, true, false, cond, not, _&&_, _||_, true≢false}
+use mathlib.Core.Bool.{Bool, true, false, cond, _&&_, _||_, true≢false}
 use mathlib.Core.List.{List, [], _∷_, map, List·Memᴰ, List·Memᴰ·head, List·Memᴰ·eq-of-singleton}
 use mathlib.Core.Path.{_≡_, refl, sym, ap, _∙_}
 use Prim.Native.Nat.{ℕ, _+_, _≤_, _<_}
@@ -15,6 +15,7 @@ use Rattle.segment.specs.Grammar.{Step, broken, end, isBroken, length-le
 use Rattle.segment.specs.Options.{Found, faultAt, found, isFound, isKnown, isRepeated, isWrongLength, knownKinds, lengthsOf, nothing, optionOf, standsIn}
 use Rattle.segment.proofs.FoundOption.{first-there, nothing-only, only-first}
 use Rattle.segment.proofs.Membership.{of-each, stands-only}
+use Rattle.segment.proofs.Outcomes.{unknown-passes}
 
 -- an option at the start of what is left of the header: without length octet, with a length under 2, or past the header
 pub data Broken (left : List ℕ) : Type 0 where
@@ -22,7 +23,7 @@ pub data Broken (left : List ℕ) : Type 0 where
   length-under-two : getD left 1 0 < 2 → Broken left
   past-header : length left < getD left 1 0 → Broken left
 
-broken-only : (left : List ℕ) → isBroken left ≡ true → Broken left
+pub broken-only : (left : List ℕ) → isBroken left ≡ true → Broken left
 unfolding isBroken
 broken-only left e = go (ltb (length left) 2) refl (ltb (getD left 1 0) 2) refl e
   where
@@ -35,6 +36,10 @@ whole-only : (left : List ℕ) → isBroken left ≡ false → Broken left → �
 whole-only left e (no-length-octet h) = omega (arith, length-least left e, length-most left e)
 whole-only left e (length-under-two h) = omega (arith, length-least left e)
 whole-only left e (past-header h) = omega (arith, length-most left e)
+
+-- Kind 0 ends the list, and what follows it is not looked at.
+pub end-step : (at : ℕ) (rest : List ℕ) → paddingRule at (0 ∷ rest) ≡ end at ∷ []
+end-step at rest = padding-rule at 0 rest
 
 -- At a kind that is neither 0 nor 1 the rules read an option, broken or whole.
 module _ (at kind : ℕ) (rest : List ℕ) (two : 2 ≤ kind) where
@@ -95,7 +100,7 @@ pub data Judged (before : List Step) : Step → ℕ → Type 0 where
   unknown-kind : (at : ℕ) (octets : List ℕ) → (Known (getD octets 0 0) → ⊥) → Judged before (whole at octets) 0
 
 -- The tests of the definitions.
-right-known : (kind n : ℕ) → RightLength kind n → (isKnown kind ≡ true) × (isWrongLength kind n ≡ false)
+pub right-known : (kind n : ℕ) → RightLength kind n → (isKnown kind ≡ true) × (isWrongLength kind n ≡ false)
 unfolding isWrongLength standsIn lengthsOf
 right-known kind n mss = (refl, refl)
 right-known kind n window-scale = (refl, refl)
@@ -124,7 +129,7 @@ lengths-right kind n three-blocks = blocks-right
 lengths-right kind n four-blocks = blocks-right
 lengths-right kind n timestamps = more timestamps none
 
-known-only : (kind : ℕ) → isKnown kind ≡ true → Known kind
+pub known-only : (kind : ℕ) → isKnown kind ≡ true → Known kind
 known-only kind e = of-each kinds-right (stands-only kind _ e)
 
 right-only : (kind n : ℕ) → Known kind → isWrongLength kind n ≡ false → RightLength kind n
@@ -144,13 +149,15 @@ wrong-only : (kind n : ℕ) → isWrongLength kind n ≡ true → Known kind
 unfolding isWrongLength
 wrong-only kind n e = known-only kind (both-true (isKnown kind) _ e .0)
 
-unknown-right : (kind n : ℕ) → (Known kind → ⊥) → (isWrongLength kind n ≡ false) × ((before : List Step) → isRepeated before kind ≡ false)
-unfolding isWrongLength isRepeated
-unknown-right kind n unknown = go (isKnown kind) refl
+pub known-not : (kind : ℕ) → (Known kind → ⊥) → isKnown kind ≡ false
+known-not kind unknown = go (isKnown kind) refl
   where
-    go : (t : Bool) → isKnown kind ≡ t → (isWrongLength kind n ≡ false) × ((before : List Step) → isRepeated before kind ≡ false)
+    go : (t : Bool) → isKnown kind ≡ t → isKnown kind ≡ false
     go true e = absurd (unknown (known-only kind e))
-    go false e = (ap (λ (k : Bool). k && not (standsIn n (lengthsOf kind knownKinds))) e, λ before. ap (λ (k : Bool). k && isFound (optionOf kind before)) e)
+    go false e = e
+
+unknown-right : (kind n : ℕ) → (Known kind → ⊥) → (isWrongLength kind n ≡ false) × ((before : List Step) → isRepeated before kind ≡ false)
+unknown-right kind n unknown = unknown-passes kind n (known-not kind unknown)
 
 -- the kind stands before exactly if it is found there
 among-found : (kind : ℕ) (steps : List Step) → Among kind steps → isFound (optionOf kind steps) ≡ true

@@ -1,42 +1,46 @@
 -- The rules' outcome on some steps, step by step from the left. Assumes nothing.
 use mathlib.Core.Bool.{true, false, cond, _&&_}
 use mathlib.Core.List.{List, [], _∷_, _++_, append-assoc, append-nil}
+use mathlib.Core.Option.{some, Option·some-ne-none}
 use mathlib.Core.Path.{_≡_, refl, sym, ap, subst, _∙_}
-use Prim.Native.Nat.{ℕ}
+use Prim.Native.Nat.{ℕ, _+_}
 use native.Mathlib.Omega.{arith}
 use lib.Dec.{eqb}
 use lib.ListN.{getD, length}
 use borrow.Author.Tests.{ne-eqb}
 use Rattle.segment.specs.Grammar.{Step, nop, end, whole, broken}
-use Rattle.segment.specs.Options.{Found, faultAt, faultIn, found, isFound, isKnown, isRepeated, isWrongLength, nothing, optionIn}
-use Rattle.segment.specs.Internal.{Noted, Outcome, placeOf}
-use Rattle.segment.specs.Reading.{numberOf}
-use Rattle.segment.specs.declared.Refusal.{Refusal}
-use Rattle.segment.specs.declared.places.Places.{Places}
+use Rattle.segment.specs.Options.{Found, faultAt, faultIn, found, isFound, isKnown, isRepeated, isWrongLength, nothing, optionIn, skippedIn, stepPlace}
+use Rattle.segment.specs.Internal.{Noted, Outcome, faultOf, placeOf}
+use Rattle.segment.specs.declared.notes.Notes.{Notes}
 use Rattle.segment.specs.declared.rules.Listing.{Listing}
-use Rattle.segment.proofs.Gathering.{firstOf, optionIn-append}
+use Rattle.segment.proofs.Gathering.{firstOf, optionIn-append, skipped-append}
 
 -- Steps before matter only by the options among them.
-abbrev pub SameOptions : List Step → List Step → Type 0
-SameOptions a b = (kinds : List ℕ) → optionIn kinds a ≡ optionIn kinds b
+pub record SameOptions (a b : List Step) : Type 0 where
+  pub found-same : (kinds : List ℕ) → optionIn kinds a ≡ optionIn kinds b
+  pub skipped-same : skippedIn a ≡ skippedIn b
 
-same-noted : (a b : List Step) (places : Places) → SameOptions a b → Noted a places → Noted b places
-same-noted a b places e p = record {
+same-noted : (a b : List Step) (notes : Notes) → SameOptions a b → Noted a notes → Noted b notes
+same-noted a b notes e p = record {
   are = p .are ∙ (λ i. record {
-    mss = placeOf (e (2 ∷ []) i);
-    scale = placeOf (e (3 ∷ []) i);
-    permitted = placeOf (e (4 ∷ []) i);
-    sack = placeOf (e (5 ∷ []) i);
-    timestamps = placeOf (e (8 ∷ []) i);
+    mss = placeOf (e .found-same (2 ∷ []) i);
+    scale = placeOf (e .found-same (3 ∷ []) i);
+    permitted = placeOf (e .found-same (4 ∷ []) i);
+    sack = placeOf (e .found-same (5 ∷ []) i);
+    timestamps = placeOf (e .found-same (8 ∷ []) i);
+    skipped = e .skipped-same i;
   });
-  past-start = λ kinds octets q. p .past-start kinds octets (e kinds ∙ q);
+  past-start = λ kinds octets q. p .past-start kinds octets (e .found-same kinds ∙ q);
 }
 
 same-after : (a b later : List Step) → SameOptions a b → SameOptions (a ++ later) (b ++ later)
-same-after a b later e kinds =
-    optionIn-append kinds a later
-    ∙ ap (λ (f : Found). firstOf f (optionIn kinds later)) (e kinds)
-    ∙ sym (optionIn-append kinds b later)
+same-after a b later e = record {
+  found-same = λ kinds.
+      optionIn-append kinds a later
+      ∙ ap (λ (f : Found). firstOf f (optionIn kinds later)) (e .found-same kinds)
+      ∙ sym (optionIn-append kinds b later);
+  skipped-same = skipped-append a later ∙ ap (λ (n : ℕ). n + skippedIn later) (e .skipped-same) ∙ sym (skipped-append b later);
+}
 
 same-fault-at : (a b : List Step) (step : Step) → SameOptions a b → faultAt a step ≡ faultAt b step
 unfolding faultAt isRepeated
@@ -45,7 +49,7 @@ same-fault-at a b (end at) e = refl
 same-fault-at a b (broken at) e = refl
 same-fault-at a b (whole at octets) e =
     let kind : ℕ = getD octets 0 0 in
-    ap (λ (f : Found). cond (isWrongLength kind (length octets)) 5 (cond (isKnown kind && isFound f) 6 0)) (e (kind ∷ []))
+    ap (λ (f : Found). cond (isWrongLength kind (length octets)) 5 (cond (isKnown kind && isFound f) 6 0)) (e .found-same (kind ∷ []))
 
 same-fault : (a b later : List Step) → SameOptions a b → faultIn a later ≡ faultIn b later
 unfolding faultIn
@@ -53,35 +57,55 @@ same-fault a b [] e = refl
 same-fault a b (step ∷ later) e =
     let here = same-fault-at a b step e in
     let after = same-fault (a ++ (step ∷ [])) (b ++ (step ∷ [])) later (same-after a b (step ∷ []) e) in
-    λ i. cond (eqb (here i) 0) (after i) (here i)
+    λ i. cond (eqb (here i) 0) (after i) (some (record { number = here i; place = stepPlace step }))
 
 same-outcome : (a b later : List Step) (r : Listing) → SameOptions a b → Outcome a later r → Outcome b later r
-same-outcome a b later (Listing.Listed places) e o =
-    (sym (same-fault a b later e) ∙ o .0, same-noted (a ++ later) (b ++ later) places (same-after a b later e) (o .1))
-same-outcome a b later (Listing.Refused why) e o = sym (same-fault a b later e) ∙ o
+same-outcome a b later r e o = record {
+  fault-is = sym (same-fault a b later e) ∙ o .fault-is;
+  noted = λ notes listed. same-noted (a ++ later) (b ++ later) notes (same-after a b later e) (o .noted notes listed);
+}
 
 -- nothing is left
-pub outcome-none : (before : List Step) (places : Places) → Noted before places → Outcome before [] (Listing.Listed places)
+pub outcome-none : (before : List Step) (notes : Notes) → Noted before notes → Outcome before [] (Listing.Listed notes)
 unfolding faultIn
-outcome-none before places p = (refl, subst (λ (steps : List Step). Noted steps places) (sym (append-nil before)) p)
+outcome-none before notes p = record {
+  fault-is = refl;
+  noted = λ n same. subst (Noted (before ++ [])) (ap notesIn same) (subst (λ (steps : List Step). Noted steps notes) (sym (append-nil before)) p);
+}
+  where
+    notesIn : Listing → Notes
+    notesIn (Listing.Listed n) = n
+    notesIn (Listing.Broken place) = notes
+    notesIn (Listing.WrongLength place) = notes
+    notesIn (Listing.Repeated place) = notes
 
 module _ (before : List Step) (step : Step) (later : List Step) where
   -- a step without fault joins those before
   pub outcome-on : faultAt before step ≡ 0 → (r : Listing) → Outcome (before ++ (step ∷ [])) later r → Outcome before (step ∷ later) r
   unfolding faultIn
-  outcome-on e (Listing.Listed places) o =
-      (rw e (o .0), subst (λ (steps : List Step). Noted steps places) (append-assoc before (step ∷ []) later) (o .1))
-  outcome-on e (Listing.Refused why) o = rw e o
+  outcome-on e r o = record {
+    fault-is = rw e (o .fault-is);
+    noted = λ notes listed.
+        subst (λ (steps : List Step). Noted steps notes) (append-assoc before (step ∷ []) later) (o .noted notes listed);
+  }
 
-  -- a fault decides
-  pub outcome-fault : (why : Refusal) → (numberOf why ≡ 0 → ⊥) → faultAt before step ≡ numberOf why → Outcome before (step ∷ later) (Listing.Refused why)
+  -- a fault decides, and its place is the step's
+  pub outcome-fault : (n : ℕ) → (n ≡ 0 → ⊥) → faultAt before step ≡ n → (r : Listing)
+      → faultOf r ≡ some (record { number = n; place = stepPlace step }) → Outcome before (step ∷ later) r
   unfolding faultIn
-  outcome-fault why some e = rw e (simp (ne-eqb (numberOf why) 0 some))
+  outcome-fault n given e r is = record {
+    fault-is = rw e (simp (ne-eqb n 0 given)) ∙ sym is;
+    noted = λ notes listed. absurd (Option·some-ne-none _ (sym is ∙ ap faultOf listed));
+  }
 
 -- a step that is no option leaves the options among those before
-pub no-option : (before : List Step) (step : Step) → ((kinds : List ℕ) → optionIn kinds (step ∷ []) ≡ nothing) → SameOptions before (before ++ (step ∷ []))
-no-option before step e kinds =
-    sym (optionIn-append kinds before (step ∷ []) ∙ ap (firstOf (optionIn kinds before)) (e kinds) ∙ alone (optionIn kinds before))
+pub no-option : (before : List Step) (step : Step) → ((kinds : List ℕ) → optionIn kinds (step ∷ []) ≡ nothing) → skippedIn (step ∷ []) ≡ 0
+    → SameOptions before (before ++ (step ∷ []))
+no-option before step e z = record {
+  found-same = λ kinds.
+      sym (optionIn-append kinds before (step ∷ []) ∙ ap (firstOf (optionIn kinds before)) (e kinds) ∙ alone (optionIn kinds before));
+  skipped-same = omega (arith, skipped-append before (step ∷ []), z);
+}
   where
     alone : (f : Found) → firstOf f nothing ≡ f
     alone nothing = refl
@@ -91,30 +115,30 @@ module _ (before : List Step) (at : ℕ) where
   pub outcome-nop : (later : List Step) (r : Listing) → Outcome before later r → Outcome before (nop at ∷ later) r
   unfolding faultAt optionIn
   outcome-nop later r o =
-      outcome-on before (nop at) later refl r (same-outcome before _ later r (no-option before (nop at) (λ kinds. refl)) o)
+      outcome-on before (nop at) later refl r (same-outcome before _ later r (no-option before (nop at) (λ kinds. refl) refl) o)
 
-  pub outcome-end : (places : Places) → Noted before places → Outcome before (end at ∷ []) (Listing.Listed places)
+  pub outcome-end : (notes : Notes) → Noted before notes → Outcome before (end at ∷ []) (Listing.Listed notes)
   unfolding faultAt optionIn
-  outcome-end places p =
-      let r : Listing = Listing.Listed places in
-      outcome-on before (end at) [] refl r (same-outcome before _ [] r (no-option before (end at) (λ kinds. refl)) (outcome-none before places p))
+  outcome-end notes p =
+      let r : Listing = Listing.Listed notes in
+      outcome-on before (end at) [] refl r (same-outcome before _ [] r (no-option before (end at) (λ kinds. refl) refl) (outcome-none before notes p))
 
-  pub outcome-broken : (later : List Step) → Outcome before (broken at ∷ later) (Listing.Refused Refusal.BrokenOption)
+  pub outcome-broken : (later : List Step) → Outcome before (broken at ∷ later) (Listing.Broken at)
   unfolding faultAt
-  outcome-broken later = outcome-fault before (broken at) later Refusal.BrokenOption (λ z. omega arith) refl
+  outcome-broken later = outcome-fault before (broken at) later 4 (λ z. omega arith) refl (Listing.Broken at) refl
 
 module _ (before : List Step) (at : ℕ) (octets : List ℕ) (later : List Step) where
   abbrev kind : ℕ
   kind = getD octets 0 0
 
-  pub outcome-wrong : isWrongLength kind (length octets) ≡ true → Outcome before (whole at octets ∷ later) (Listing.Refused Refusal.WrongOptionLength)
+  pub outcome-wrong : isWrongLength kind (length octets) ≡ true → Outcome before (whole at octets ∷ later) (Listing.WrongLength at)
   unfolding faultAt
-  outcome-wrong e = outcome-fault before (whole at octets) later Refusal.WrongOptionLength (λ z. omega arith) (simp e)
+  outcome-wrong e = outcome-fault before (whole at octets) later 5 (λ z. omega arith) (simp e) (Listing.WrongLength at) refl
 
   pub outcome-repeated : isWrongLength kind (length octets) ≡ false → isRepeated before kind ≡ true
-      → Outcome before (whole at octets ∷ later) (Listing.Refused Refusal.RepeatedOption)
+      → Outcome before (whole at octets ∷ later) (Listing.Repeated at)
   unfolding faultAt
-  outcome-repeated e f = outcome-fault before (whole at octets) later Refusal.RepeatedOption (λ z. omega arith) (simp (e, f))
+  outcome-repeated e f = outcome-fault before (whole at octets) later 6 (λ z. omega arith) (simp (e, f)) (Listing.Repeated at) refl
 
   pub outcome-whole : isWrongLength kind (length octets) ≡ false → isRepeated before kind ≡ false
       → (r : Listing) → Outcome (before ++ (whole at octets ∷ [])) later r → Outcome before (whole at octets ∷ later) r

@@ -8,6 +8,7 @@ pub mod HeaderRead
 pub mod Induction
 pub mod Inside
 mod Judging
+pub mod KindAtFault
 mod Listed
 pub mod LowKinds
 mod Membership
@@ -17,4 +18,6 @@ pub mod OptionsRead
 mod Outcomes
 pub mod Readable
 pub mod Refused
+pub mod Skipped
 mod Standing
+pub mod Steps

@@ -72,9 +72,9 @@ stands-from least n l h = stands-passed (leb least) n l (le-leb least n h)
 pub below-out : (least n : ℕ) (l : List ℕ) → n < least → filter (leb least) (n ∷ l) ≡ filter (leb least) l
 below-out least n l h = simp (lt-leb least n h)
 
-pub of-each : {P : ℕ → Type 0} {l : List ℕ} {n : ℕ} → Each P l → List·Memᴰ n l → P n
+pub of-each : {A : Type 0} {P : A → Type 0} {l : List A} {n : A} → Each P l → List·Memᴰ n l → P n
 of-each none m = absurd (List·Memᴰ·not-nil m)
-of-each {P} {l} {n} (more {x} {xs} h e) m = go (List·Memᴰ·cases-cons m) (λ later. of-each e later)
+of-each {A} {P} {l} {n} (more {x} {xs} h e) m = go (List·Memᴰ·cases-cons m) (λ later. of-each e later)
   where
     go : (n ≡ x) ⊎ List·Memᴰ n xs → (List·Memᴰ n xs → P n) → P n
     go (inl same) rest = subst P (sym same) h

@@ -2,6 +2,7 @@
 -- adds to what is read, whatever follows it. Assumes nothing.
 use mathlib.Core.Bool.{Bool, true, false, cond}
 use mathlib.Core.List.{List, [], _∷_, _++_, append-assoc, append-nil}
+use mathlib.Core.Option.{none}
 use mathlib.Core.Path.{_≡_, refl, sym, ap, _∙_}
 use Prim.Native.Nat.{ℕ, _+_, _≤_}
 use native.Mathlib.Omega.{arith}
@@ -10,24 +11,30 @@ use lib.ListN.{drop, getD, length, length-append, take}
 use lib.Seq.{drop-at, take-at}
 use borrow.Author.Tests.{le-ltb, ne-eqb}
 use Rattle.segment.specs.Grammar.{Step, isBroken, nop, option-rule, padding-none, padding-rule, paddingRule, whole}
-use Rattle.segment.specs.Options.{Found, blocksOf, faultAt, faultIn, found, isFound, isKnown, isRepeated, isWrongLength, mssOf, optionIn, optionOf, optionsOf, scaleOf, standsIn, timestampsOf}
+use Rattle.segment.specs.Options.{Found, blocksOf, faultAt, faultIn, found, isFound, isKnown, isRepeated, isWrongLength, mssOf, optionIn, optionOf, optionsOf, scaleOf, skippedIn, standsIn, timestampsOf}
 use Rattle.segment.specs.declared.Options.{Options}
-use Rattle.segment.proofs.Gathering.{new-kind, option-after}
+use Rattle.segment.proofs.Gathering.{new-kind, option-after, skipped-after}
 use Rattle.segment.proofs.Judging.{SameOptions, no-option}
 
--- the later steps have no fault, and with those before they say o
-abbrev pub Said : List Step → List Step → Options → Type 0
-Said before later o = (faultIn before later ≡ 0) × (optionsOf (before ++ later) ≡ o)
+-- the later steps have no fault, and with those before they say o and skip none
+pub record Said (before later : List Step) (o : Options) : Type 0 where
+  pub no-fault : faultIn before later ≡ none
+  pub options-are : optionsOf (before ++ later) ≡ o
+  pub none-skipped : skippedIn (before ++ later) ≡ 0
 
--- After options that say o, the octets left are read without fault, and then the options say o′; wherever they stand.
+-- After options that say o and skip none, the octets left are read without fault, and then the options say o′ and skip none; wherever they stand.
 pub record Reads (o : Options) (left : List ℕ) (o′ : Options) : Type 0 where
-  pub steps : (at : ℕ) (before : List Step) → optionsOf before ≡ o → Said before (paddingRule at left) o′
+  pub steps : (at : ℕ) (before : List Step) → optionsOf before ≡ o → skippedIn before ≡ 0 → Said before (paddingRule at left) o′
 
 -- a step without fault joins those before
 joins : (before : List Step) (step : Step) (later : List Step) (o : Options) → faultAt before step ≡ 0 → Said (before ++ (step ∷ [])) later o
     → Said before (step ∷ later) o
 unfolding faultIn
-joins before step later o e r = (rw e (r .0), rw append-assoc at (r .1))
+joins before step later o e r = record {
+  no-fault = rw e (r .no-fault);
+  options-are = rw append-assoc at (r .options-are);
+  none-skipped = rw append-assoc at (r .none-skipped);
+}
 
 -- options with one more: the field of its kind
 abbrev pub withOption : Options → List ℕ → Options
@@ -87,38 +94,44 @@ option-found at kind n body rest k size =
 same-said : (a b : List Step) → SameOptions a b → optionsOf a ≡ optionsOf b
 unfolding optionsOf
 same-said a b e i = record {
-  mss = mssOf (e (2 ∷ []) i);
-  scale = scaleOf (e (3 ∷ []) i);
-  permitted = isFound (e (4 ∷ []) i);
-  blocks = blocksOf (e (5 ∷ []) i);
-  timestamps = timestampsOf (e (8 ∷ []) i);
+  mss = mssOf (e .found-same (2 ∷ []) i);
+  scale = scaleOf (e .found-same (3 ∷ []) i);
+  permitted = isFound (e .found-same (4 ∷ []) i);
+  blocks = blocksOf (e .found-same (5 ∷ []) i);
+  timestamps = timestampsOf (e .found-same (8 ∷ []) i);
 }
 
 pub none-read : {o : Options} → Reads o [] o
 unfolding faultIn
-none-read {o} = record { steps = λ at before said. rw padding-none (refl, ap optionsOf (append-nil before) ∙ said) }
+none-read {o} = record {
+  steps = λ at before said skips. rw padding-none (record {
+    no-fault = refl;
+    options-are = ap optionsOf (append-nil before) ∙ said;
+    none-skipped = ap skippedIn (append-nil before) ∙ skips;
+  });
+}
 
 module _ {o : Options} {rest : List ℕ} {o′ : Options} where
   pub nop-read : Reads o rest o′ → Reads o (1 ∷ rest) o′
   unfolding faultAt optionIn
   nop-read then = record {
-    steps = λ at before said.
-        let same : SameOptions before (before ++ (nop at ∷ [])) = no-option before (nop at) (λ kinds. refl) in
+    steps = λ at before said skips.
+        let same : SameOptions before (before ++ (nop at ∷ [])) = no-option before (nop at) (λ kinds. refl) refl in
         rw padding-rule (joins before (nop at) (paddingRule (at + 1) rest) o′ refl
-        (then .steps (at + 1) (before ++ (nop at ∷ [])) (sym (same-said before _ same) ∙ said)));
+        (then .steps (at + 1) (before ++ (nop at ∷ [])) (sym (same-said before _ same) ∙ said) (sym (same .skipped-same) ∙ skips)));
   }
 
-  -- any option of a right length whose kind is new
-  pub option-read : (kind n : ℕ) (body : List ℕ) → 2 ≤ kind → length (kind ∷ n ∷ body) ≡ n → isWrongLength kind n ≡ false
+  -- any option of a known kind and a right length whose kind is new
+  pub option-read : (kind n : ℕ) (body : List ℕ) → 2 ≤ kind → isKnown kind ≡ true → length (kind ∷ n ∷ body) ≡ n → isWrongLength kind n ≡ false
       → ((before : List Step) → optionsOf before ≡ o → isRepeated before kind ≡ false)
       → Reads (withOption o (kind ∷ n ∷ body)) rest o′ → Reads o (kind ∷ n ∷ (body ++ rest)) o′
   unfolding faultAt
-  option-read kind n body k size right new then = record {
-    steps = λ at before said.
+  option-read kind n body k known size right new then = record {
+    steps = λ at before said skips.
         let octets : List ℕ = kind ∷ n ∷ body in
         let fits : isWrongLength kind (length octets) ≡ false = ap (isWrongLength kind) size ∙ right in
         let after = options-after before at octets (new before said) ∙ ap (λ (x : Options). withOption x octets) said in
         rw (option-found at kind n body rest k size)
         (joins before (whole at octets) (paddingRule (at + n) rest) o′ (simp (fits, new before said))
-        (then .steps (at + n) (before ++ (whole at octets ∷ [])) after));
+        (then .steps (at + n) (before ++ (whole at octets ∷ [])) after (skipped-after before at octets ∙ rw (skips, known))));
   }

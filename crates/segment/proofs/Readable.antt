@@ -1,19 +1,21 @@
 -- What is answered to a segment, by E1 to E3 and its options, and what holds of every segment that is read. Assumes nothing.
 use mathlib.Core.Bool.{Bool, true, false, cond, _||_}
-use mathlib.Core.List.{List, []}
-use mathlib.Core.Option.{Option·some-injective}
+use mathlib.Core.List.{List, [], _∷_, _++_}
+use mathlib.Core.Option.{Option, none, some, Option·elim, Option·some-injective, Option·some-ne-none}
 use mathlib.Core.Path.{_≡_, refl, sym, ap, subst, _∙_}
 use Prim.Native.Nat.{ℕ, _*_, _≤_, _<_}
 use native.Mathlib.Omega.{arith}
 use lib.Dec.{eqb, ltb}
 use lib.ListN.{getD, length}
-use borrow.Author.Tests.{eqb-true, le-ltb, lt-ltb, ltb-false, ne-eqb}
+use borrow.Author.Tests.{eqb-false, le-ltb, lt-ltb, ltb-false, ne-eqb}
 use Rattle.laws.proofs.Choices.{neither}
-use Rattle.segment.specs.Options.{blockList, faultIn, nothing, optionIn, optionsOf}
-use Rattle.segment.specs.Reading.{Answer, dataOffset, flagsOf, foundOption, matching, numberOf, optionsRead, readAs, reading, refused, segmentOf, stepsOf, withFields}
+use Rattle.segment.specs.Grammar.{Step, broken, end, nop, whole}
+use Rattle.segment.specs.Options.{Fault, blockList, faultAt, faultIn, isRepeated, isWrongLength, nothing, optionIn, optionsOf, skippedIn, stepPlace}
+use Rattle.segment.specs.Reading.{Answer, dataOffset, flagsOf, foundOption, matching, numberOf, optionsRead, readAs, reading, refused, refusedAt, segmentOf, shown, stepsOf, withFields}
 use Rattle.segment.specs.Readable.{Readable}
 use Rattle.segment.specs.declared.Flags.{Flags}
 use Rattle.segment.specs.declared.Options.{Options}
+use Rattle.segment.specs.declared.Reading.{Reading}
 use Rattle.segment.specs.declared.Refusal.{Refusal}
 use Rattle.segment.specs.declared.SackBlocks.{SackBlocks}
 use Rattle.segment.specs.declared.Segment.{Segment}
@@ -23,9 +25,9 @@ pub number-some : (why : Refusal) → numberOf why ≡ 0 → ⊥
 number-some Refusal.TooShort e = omega arith
 number-some Refusal.TooLong e = omega arith
 number-some Refusal.BadDataOffset e = omega arith
-number-some Refusal.BrokenOption e = omega arith
-number-some Refusal.WrongOptionLength e = omega arith
-number-some Refusal.RepeatedOption e = omega arith
+number-some (Refusal.BrokenOption place) e = omega arith
+number-some (Refusal.WrongOptionLength place) e = omega arith
+number-some (Refusal.RepeatedOption place) e = omega arith
 
 -- what E1, E2 and E3 let pass
 pub record Passed (s : List ℕ) : Type 0 where
@@ -53,20 +55,20 @@ module _ {A : Type 0} where
 
 -- it is answered by its options
 module _ (s : List ℕ) (p : Passed s) where
-  pub by-options : reading s ≡ withFields (segmentOf s (4 * dataOffset s)) (optionsRead (stepsOf s))
+  pub by-options : reading s ≡ withFields (segmentOf s (4 * dataOffset s) (skippedIn (stepsOf s))) (optionsRead (stepsOf s))
   unfolding reading
   by-options =
       not-below (length s) _ _ _ (omega (arith, p .long))
       ∙ not-below _ (length s) _ _ (omega (arith, p .short))
       ∙ neither-below (dataOffset s) _ (length s) _ _ _ (omega (arith, p .offset-least)) (omega (arith, p .offset-most))
 
-  pub read-if : faultIn [] (stepsOf s) ≡ 0 → reading s ≡ readAs (segmentOf s (4 * dataOffset s) (optionsOf (stepsOf s)))
-  unfolding optionsRead
+  pub read-if : faultIn [] (stepsOf s) ≡ none → reading s ≡ readAs (segmentOf s (4 * dataOffset s) (skippedIn (stepsOf s)) (optionsOf (stepsOf s)))
+  unfolding optionsRead Option·elim
   read-if e = by-options ∙ rw e
 
-  pub refused-if : (why : Refusal) → faultIn [] (stepsOf s) ≡ numberOf why → reading s ≡ refused (numberOf why)
-  unfolding optionsRead
-  refused-if why e = by-options ∙ rw e (simp (ne-eqb _ _ (number-some why)))
+  pub refused-if : (fault : Fault) → faultIn [] (stepsOf s) ≡ some fault → reading s ≡ refusedAt fault
+  unfolding optionsRead Option·elim
+  refused-if fault e = by-options ∙ rw e
 
 -- Number 0 is no refusal, so each test that refuses has failed.
 not-refused : {A : Type 0} (test : Bool) (n : ℕ) (rest : Answer A) → (n ≡ 0 → ⊥) → cond test (refused n) rest .number ≡ 0
@@ -74,13 +76,41 @@ not-refused : {A : Type 0} (test : Bool) (n : ℕ) (rest : Answer A) → (n ≡ 
 not-refused true n rest given e = absurd (given e)
 not-refused false n rest given e = (refl, e)
 
--- no fault, so the options are read
-no-fault : {A : Type 0} (fault : ℕ) (a : A) → cond (eqb fault 0) (readAs a) (refused fault) .number ≡ 0 → fault ≡ 0
-no-fault fault a e = go (eqb fault 0) refl e
+-- a fault is E4, E5 or E6
+fault-at-range : (before : List Step) (step : Step) → (faultAt before step ≡ 0 → ⊥) → (4 ≤ faultAt before step) × (faultAt before step ≤ 6)
+unfolding faultAt
+fault-at-range before (nop at) given = absurd (given refl)
+fault-at-range before (end at) given = absurd (given refl)
+fault-at-range before (broken at) given = (omega arith, omega arith)
+fault-at-range before (whole at octets) given = go (isWrongLength (getD octets 0 0) (length octets)) (isRepeated before (getD octets 0 0)) given
   where
-    go : (t : Bool) → eqb fault 0 ≡ t → cond t (readAs a) (refused fault) .number ≡ 0 → fault ≡ 0
-    go true z n = eqb-true fault 0 z
-    go false z n = n
+    go : (t u : Bool) → (_≡_ {A = ℕ} (cond t 5 (cond u 6 0)) 0 → ⊥) → (4 ≤ cond t 5 (cond u 6 0)) × (cond t 5 (cond u 6 0) ≤ 6)
+    go true u given = (omega arith, omega arith)
+    go false true given = (omega arith, omega arith)
+    go false false given = absurd (given refl)
+
+pub fault-range : (before steps : List Step) (fault : Fault) → faultIn before steps ≡ some fault → (4 ≤ fault .number) × (fault .number ≤ 6)
+unfolding faultIn
+fault-range before [] fault e = absurd (Option·some-ne-none fault (sym e))
+fault-range before (step ∷ later) fault e = go (eqb (faultAt before step) 0) refl e (fault-range (before ++ (step ∷ [])) later fault)
+  where
+    go : (t : Bool) → eqb (faultAt before step) 0 ≡ t
+        → cond t (faultIn (before ++ (step ∷ [])) later) (some (record { number = faultAt before step; place = stepPlace step })) ≡ some fault
+        → (faultIn (before ++ (step ∷ [])) later ≡ some fault → (4 ≤ fault .number) × (fault .number ≤ 6)) → (4 ≤ fault .number) × (fault .number ≤ 6)
+    go true z e rest = rest e
+    go false z e rest =
+        let same : faultAt before step ≡ fault .number = ap (λ (f : Fault). f .number) (Option·some-injective _ _ e) in
+        let range = fault-at-range before step (eqb-false _ 0 z) in
+        (omega (arith, same, range .0), omega (arith, same, range .1))
+
+-- without one the options are read
+no-fault : (steps : List Step) → optionsRead steps .number ≡ 0 → faultIn [] steps ≡ none
+unfolding optionsRead Option·elim
+no-fault steps e = go (faultIn [] steps) refl e
+  where
+    go : (f : Option Fault) → faultIn [] steps ≡ f → Option·elim f (readAs (optionsOf steps)) refusedAt .number ≡ 0 → faultIn [] steps ≡ none
+    go none same n = same
+    go (some fault) same n = absurd (omega (arith, fault-range [] steps fault same .0, n))
 
 -- a segment with the number 0
 module _ (s : List ℕ) (e : reading s .number ≡ 0) where
@@ -98,18 +128,17 @@ module _ (s : List ℕ) (e : reading s .number ≡ 0) where
         offset-most = ltb-false _ _ (tests .1);
       }
 
-  pub read-is : reading s ≡ readAs (segmentOf s (4 * dataOffset s) (optionsOf (stepsOf s)))
-  unfolding optionsRead
+  pub read-is : reading s ≡ readAs (segmentOf s (4 * dataOffset s) (skippedIn (stepsOf s)) (optionsOf (stepsOf s)))
   read-is =
       let options = ap (λ (a : Answer Segment). a .number) (by-options s passed) in
-      read-if s passed (no-fault (faultIn [] (stepsOf s)) (optionsOf (stepsOf s)) (sym options ∙ e))
+      read-if s passed (no-fault (stepsOf s) (sym options ∙ e))
 
 flag-most : (flag : Bool) → cond flag 1 0 ≤ 1
 flag-most true = omega arith
 flag-most false = omega arith
 
 -- what holds of the fields, whatever the options are
-module _ (s : List ℕ) (end : ℕ) (options : Options) (short : length s ≤ 65535) (least : 20 ≤ end) (most : end ≤ length s) where
+module _ (s : List ℕ) (end skipped : ℕ) (options : Options) (short : length s ≤ 65535) (least : 20 ≤ end) (most : end ≤ length s) where
   blocks-most : (b : SackBlocks) → length (blockList b) ≤ 4
   blocks-most SackBlocks.Absent = omega arith
   blocks-most (SackBlocks.One a) = omega arith
@@ -117,7 +146,7 @@ module _ (s : List ℕ) (end : ℕ) (options : Options) (short : length s ≤ 65
   blocks-most (SackBlocks.Three a b c) = omega arith
   blocks-most (SackBlocks.Four a b c d) = omega arith
 
-  fields-readable : Readable s (segmentOf s end options)
+  fields-readable : Readable s (segmentOf s end skipped options)
   unfolding segmentOf
   fields-readable =
       let flags : Flags = flagsOf (getD s 13 0) in
@@ -137,7 +166,7 @@ module _ (s : List ℕ) (w : Segment) (e : reading s ≡ readAs w) where
   zero-number : reading s .number ≡ 0
   zero-number = ap (λ (a : Answer Segment). a .number) e
 
-  pub fields-are : w ≡ segmentOf s (4 * dataOffset s) (optionsOf (stepsOf s))
+  pub fields-are : w ≡ segmentOf s (4 * dataOffset s) (skippedIn (stepsOf s)) (optionsOf (stepsOf s))
   fields-are = Option·some-injective _ _ (ap (λ (a : Answer Segment). a .fields) (sym e ∙ read-is s zero-number))
 
   pub start-is : w .payload .start ≡ 4 * dataOffset s
@@ -148,7 +177,7 @@ module _ (s : List ℕ) (w : Segment) (e : reading s ≡ readAs w) where
   readable =
       let p = passed s zero-number in
       subst (Readable s) (sym fields-are)
-      (fields-readable s (4 * dataOffset s) _ (p .short) (omega (arith, p .offset-least)) (p .offset-most))
+      (fields-readable s (4 * dataOffset s) _ _ (p .short) (omega (arith, p .offset-least)) (p .offset-most))
 
 -- An option is found in what is read, and none in what is refused.
 module _ (s kinds : List ℕ) where
@@ -156,8 +185,8 @@ module _ (s kinds : List ℕ) where
   unfolding foundOption
   by-number a e = ap (λ (x : Answer Segment). cond (eqb (x .number) 0) (optionIn (matching kinds) (stepsOf s)) nothing) e
 
-  pub found-none : (why : Refusal) → reading s ≡ refused (numberOf why) → foundOption s kinds ≡ nothing
-  found-none why e = by-number (refused (numberOf why)) e ∙ simp (ne-eqb _ _ (number-some why))
+  pub found-none : (why : Refusal) → reading s ≡ shown (Reading.Refused why) → foundOption s kinds ≡ nothing
+  found-none why e = by-number (shown (Reading.Refused why)) e ∙ simp (ne-eqb _ _ (number-some why))
 
   pub found-some : (w : Segment) → reading s ≡ readAs w → foundOption s kinds ≡ optionIn (matching kinds) (stepsOf s)
   found-some w e = by-number (readAs w) e

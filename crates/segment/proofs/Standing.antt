@@ -1,16 +1,17 @@
 -- The known options of a segment without fault stand in it, each with a length of its kind, and have their values there. Assumes nothing.
 use mathlib.Core.Bool.{Bool, true, false, cond, not, _&&_, _||_, true≢false}
 use mathlib.Core.List.{List, [], _∷_, _++_}
+use mathlib.Core.Option.{Option, none, some, Option·some-ne-none}
 use mathlib.Core.Path.{_≡_, refl, sym, ap, _∙_}
 use Prim.Native.Nat.{ℕ, zero, suc, _+_, _*_, _^_, _≤_}
 use native.Mathlib.Nat.{add-suc}
 use native.Mathlib.Omega.{arith}
 use lib.Dec.{eqb, leb}
 use lib.ListN.{getD, length}
-use borrow.Author.Tests.{eqb-false, eqb-true, leb-true, not-false}
+use borrow.Author.Tests.{eqb-true, leb-true, not-false}
 use Rattle.octets.specs.Octets.{numberAt}
 use Rattle.segment.specs.Grammar.{Step, broken, end, nop, whole}
-use Rattle.segment.specs.Options.{Found, faultAt, faultIn, found, isFound, isKnown, isWrongLength, knownKinds, lengthsOf, nothing, optionIn, optionOf, standsIn}
+use Rattle.segment.specs.Options.{Fault, Found, faultAt, faultIn, found, isFound, isKnown, isWrongLength, knownKinds, lengthsOf, nothing, optionIn, optionOf, standsIn}
 use Rattle.segment.specs.Internal.{Stands, StandAll, StandsIf, placeOf}
 use Rattle.segment.specs.Reading.{dataOffset, stepsOf}
 use Rattle.segment.proofs.Inside.{in-segment, none-found, octetsOf}
@@ -25,10 +26,10 @@ module _ (s : List ℕ) (kind n place : ℕ) (f : Found) (e : place ≡ placeOf 
       go (found at octets) same = absurd (omega (arith, stands at octets same .inside .after-header, e, ap placeOf same))
 
   pub one-there : (place ≡ 0 → ⊥) → (octets : List ℕ) × (f ≡ found place octets) × Stands s kind n place octets
-  one-there some = go f refl
+  one-there given = go f refl
     where
       go : (g : Found) → f ≡ g → (octets : List ℕ) × (f ≡ found place octets) × Stands s kind n place octets
-      go nothing same = absurd (some (e ∙ ap placeOf same))
+      go nothing same = absurd (given (e ∙ ap placeOf same))
       go (found at octets) same =
           let here : f ≡ found place octets = same ∙ ap (λ (k : ℕ). found k octets) (sym (e ∙ ap placeOf same)) in
           (octets, here, stands place octets here)
@@ -54,12 +55,12 @@ number-there {s} {kind} {n} {place} {octets} st (suc w) i h =
     λ j. octet j * 256 ^ w + lower j
 
 -- Without fault, each known option has a length of its kind.
-both-none : (here after : ℕ) → cond (eqb here 0) after here ≡ 0 → (here ≡ 0) × (after ≡ 0)
-both-none here after e = go (eqb here 0) refl e
+both-none : (here : ℕ) (after : Option Fault) (fault : Fault) → cond (eqb here 0) after (some fault) ≡ none → (here ≡ 0) × (after ≡ none)
+both-none here after fault e = go (eqb here 0) refl e
   where
-    go : (t : Bool) → eqb here 0 ≡ t → cond t after here ≡ 0 → (here ≡ 0) × (after ≡ 0)
+    go : (t : Bool) → eqb here 0 ≡ t → cond t after (some fault) ≡ none → (here ≡ 0) × (after ≡ none)
     go true z q = (eqb-true here 0 z, q)
-    go false z q = absurd (eqb-false here 0 z q)
+    go false z q = absurd (Option·some-ne-none fault q)
 
 right-length-at : (before : List Step) (at : ℕ) (octets : List ℕ) → faultAt before (whole at octets) ≡ 0 → isWrongLength (getD octets 0 0) (length octets) ≡ false
 unfolding faultAt
@@ -69,15 +70,15 @@ right-length-at before at octets e = go (isWrongLength (getD octets 0 0) (length
     go true other e = absurd (omega arith)
     go false other e = refl
 
-right-length : (k : ℕ) (before steps : List Step) → faultIn before steps ≡ 0 → (place : ℕ) (octets : List ℕ) → optionOf k steps ≡ found place octets
+right-length : (k : ℕ) (before steps : List Step) → faultIn before steps ≡ none → (place : ℕ) (octets : List ℕ) → optionOf k steps ≡ found place octets
     → isWrongLength k (length octets) ≡ false
 unfolding faultIn faultAt optionIn standsIn
 right-length k before [] e place octets q = none-found place octets q
 right-length k before (nop at ∷ later) e place octets q = right-length k (before ++ (nop at ∷ [])) later e place octets q
 right-length k before (end at ∷ later) e place octets q = right-length k (before ++ (end at ∷ [])) later e place octets q
-right-length k before (broken at ∷ later) e place octets q = absurd (omega arith)
+right-length k before (broken at ∷ later) e place octets q = absurd (Option·some-ne-none _ e)
 right-length k before (whole at o ∷ later) e place octets q =
-    let none = both-none (faultAt before (whole at o)) _ e in
+    let none = both-none (faultAt before (whole at o)) _ _ e in
     go (eqb (getD o 0 0) k) refl (right-length-at before at o (none .0)) (right-length k (before ++ (whole at o ∷ [])) later (none .1) place octets) q
   where
     go : (t : Bool) → eqb (getD o 0 0) k ≡ t → isWrongLength (getD o 0 0) (length o) ≡ false
@@ -105,11 +106,11 @@ from-least least n (x ∷ xs) a s = go (leb least x) refl (eqb n x) refl a s (fr
     go false l u z a s rest = absurd (true≢false (sym a))
 
 -- Each option that has a value stands in the segment.
-module _ (s : List ℕ) (five : 5 ≤ dataOffset s) (none : faultIn [] (stepsOf s) ≡ 0) where
+module _ (s : List ℕ) (five : 5 ≤ dataOffset s) (faultless : faultIn [] (stepsOf s) ≡ none) where
   stands : (k least : ℕ) → isKnown k ≡ true → allFrom least (lengthsOf k knownKinds) ≡ true → StandsIf s k least (optionOf k (stepsOf s))
   unfolding isWrongLength
   stands k least known from place octets e =
-      let right = rw known at (right-length k [] (stepsOf s) none place octets e) in
+      let right = rw known at (right-length k [] (stepsOf s) faultless place octets e) in
       record {
         inside = in-segment (k ∷ []) s place octets five e;
         least = from-least least (length octets) (lengthsOf k knownKinds) from (not-false _ right);

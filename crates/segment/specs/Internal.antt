@@ -1,16 +1,17 @@
--- What the contracts of private functions cite: where the known options stand, as the reader notes it while the rules run, and how far a
--- step reaches. No promise of the crate rests on these.
+-- What the contracts of private functions cite: what the reader notes of the options while the rules run, and how far a step reaches. No
+-- promise of the crate rests on these.
 use Prim.Native.Nat.{ℕ, _+_, _≤_}
 use mathlib.Core.Bool.{Bool, cond}
 use mathlib.Core.List.{List, [], _∷_, _++_}
+use mathlib.Core.Option.{Option, none, some}
 use mathlib.Core.Path.{_≡_}
 use lib.Dec.{eqb}
 use lib.ListN.{drop, getD, length, take}
 use Rattle.segment.specs.Grammar.{Step, paddingRule}
-use Rattle.segment.specs.Options.{Found, faultIn, found, nothing, optionIn, optionOf, standsIn}
-use Rattle.segment.specs.Reading.{matching, numberOf}
+use Rattle.segment.specs.Options.{Fault, Found, faultIn, found, isKnown, nothing, optionIn, optionOf, skippedIn, standsIn}
+use Rattle.segment.specs.Reading.{matching}
 use Rattle.segment.specs.Part.{Inside}
-use Rattle.segment.specs.declared.places.Places.{Places}
+use Rattle.segment.specs.declared.notes.Notes.{Notes}
 use Rattle.segment.specs.declared.rules.Listing.{Listing}
 
 -- the place of an option, 0 where there is none
@@ -18,24 +19,43 @@ abbrev pub placeOf : Found → ℕ
 placeOf nothing = 0
 placeOf (found place octets) = place
 
-abbrev pub placesOf : List Step → Places
-placesOf steps = record {
+abbrev pub notesOf : List Step → Notes
+notesOf steps = record {
   mss = placeOf (optionOf 2 steps);
   scale = placeOf (optionOf 3 steps);
   permitted = placeOf (optionOf 4 steps);
   sack = placeOf (optionOf 5 steps);
   timestamps = placeOf (optionOf 8 steps);
+  skipped = skippedIn steps;
 }
 
--- the places of the known options among some steps, no option of which stands at place 0
-pub record Noted (steps : List Step) (places : Places) : Type 0 where
-  pub are : places ≡ placesOf steps
+-- what is noted of the options among some steps, none of which stands at place 0
+pub record Noted (steps : List Step) (notes : Notes) : Type 0 where
+  pub are : notes ≡ notesOf steps
   pub past-start : (kinds octets : List ℕ) → optionIn kinds steps ≡ found 0 octets → ⊥
 
--- what the rules make of some steps that follow others: the places of all, or the first fault
-abbrev pub Outcome : List Step → List Step → Listing → Type 0
-Outcome before steps (Listing.Listed places) = (faultIn before steps ≡ 0) × Noted (before ++ steps) places
-Outcome before steps (Listing.Refused why) = faultIn before steps ≡ numberOf why
+-- the notes with one more option: its place, or one more that is skipped
+abbrev pub notedWith : Notes → ℕ → ℕ → Notes
+notedWith prior kind at = record {
+  mss = cond (eqb kind 2) at (prior .mss);
+  scale = cond (eqb kind 3) at (prior .scale);
+  permitted = cond (eqb kind 4) at (prior .permitted);
+  sack = cond (eqb kind 5) at (prior .sack);
+  timestamps = cond (eqb kind 8) at (prior .timestamps);
+  skipped = cond (isKnown kind) (prior .skipped) (prior .skipped + 1);
+}
+
+-- the fault of each case of the rules' answer
+abbrev pub faultOf : Listing → Option Fault
+faultOf (Listing.Listed notes) = none
+faultOf (Listing.Broken place) = some (record { number = 4; place = place })
+faultOf (Listing.WrongLength place) = some (record { number = 5; place = place })
+faultOf (Listing.Repeated place) = some (record { number = 6; place = place })
+
+-- what the rules make of some steps that follow others: the first fault, or what is noted of all
+pub record Outcome (before steps : List Step) (r : Listing) : Type 0 where
+  pub fault-is : faultIn before steps ≡ faultOf r
+  pub noted : (notes : Notes) → r ≡ Listing.Listed notes → Noted (before ++ steps) notes
 
 -- an option of the segment, of this kind and of at least n octets
 pub record Stands (s : List ℕ) (kind n place : ℕ) (octets : List ℕ) : Type 0 where

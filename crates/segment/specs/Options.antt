@@ -2,8 +2,10 @@
 use Prim.Native.Nat.{ℕ, zero, suc, _+_, _-_, _/_}
 use mathlib.Core.Bool.{Bool, true, false, cond, not, _&&_, _||_}
 use mathlib.Core.List.{List, [], _∷_, _++_, map}
+use mathlib.Core.Option.{Option, none, some}
 use lib.Dec.{eqb}
 use lib.ListN.{getD, length}
+use Rattle.laws.specs.Lists.{filter}
 use Rattle.octets.specs.Octets.{numberAt}
 use Rattle.serial.specs.Serial.{range}
 use Rattle.serial.specs.declared.Range.{Range}
@@ -75,13 +77,36 @@ faultAt before (whole at octets) =
     let kind = getD octets 0 0 in
     cond (isWrongLength kind (length octets)) 5 (cond (isRepeated before kind) 6 0)
 
--- the first fault from the left, given the steps before; 0 where there is none
-unfoldable pub faultIn : List Step → List Step → ℕ
-faultIn before [] = 0
+-- the place of a step's kind octet in the segment
+abbrev pub stepPlace : Step → ℕ
+stepPlace (nop at) = at
+stepPlace (end at) = at
+stepPlace (broken at) = at
+stepPlace (whole at octets) = at
+
+-- what is wrong with an option: E4, E5 or E6, and the place of its kind octet in the segment
+pub record Fault : Type 0 where
+  pub number : ℕ
+  pub place : ℕ
+
+-- the first fault from the left, given the steps before
+unfoldable pub faultIn : List Step → List Step → Option Fault
+faultIn before [] = none
 faultIn before (step ∷ later) =
-    let here = faultAt before step in
+    let number = faultAt before step in
     let after = faultIn (before ++ (step ∷ [])) later in
-    cond (eqb here 0) after here
+    cond (eqb number 0) after (some (record { number = number; place = stepPlace step }))
+
+-- an option that is skipped: it has a length, and its kind is not known
+abbrev pub isSkipped : Step → Bool
+isSkipped (nop at) = false
+isSkipped (end at) = false
+isSkipped (broken at) = false
+isSkipped (whole at octets) = not (isKnown (getD octets 0 0))
+
+-- how many options are skipped
+abbrev pub skippedIn : List Step → ℕ
+skippedIn steps = length (filter isSkipped steps)
 
 -- TSval, then TSecr
 abbrev pub timestampsIn : List ℕ → Timestamps

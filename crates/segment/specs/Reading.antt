@@ -2,53 +2,66 @@
 use Prim.Native.Nat.{ℕ, _+_, _-_, _*_, _/_, _%_, _^_}
 use mathlib.Core.Bool.{Bool, cond, _||_}
 use mathlib.Core.List.{List, []}
-use mathlib.Core.Option.{Option, none, some, Option·map}
+use mathlib.Core.Option.{Option, none, some, Option·elim, Option·map}
 use lib.Dec.{eqb, leb, ltb}
 use lib.ListN.{drop, getD, length, take}
 use Rattle.laws.specs.Lists.{filter}
 use Rattle.octets.specs.Octets.{numberAt}
 use Rattle.segment.specs.Grammar.{Step, paddingRule}
-use Rattle.segment.specs.Options.{Found, faultIn, nothing, optionIn, optionsOf}
+use Rattle.segment.specs.Options.{Fault, Found, faultIn, nothing, optionIn, optionsOf, skippedIn}
 use Rattle.segment.specs.declared.Flags.{Flags}
 use Rattle.segment.specs.declared.Options.{Options}
 use Rattle.segment.specs.declared.Reading.{Reading}
 use Rattle.segment.specs.declared.Refusal.{Refusal}
 use Rattle.segment.specs.declared.Segment.{Segment}
 
--- an answer in document 01's terms: 0 and what was read, or the refusal's number alone
+-- an answer in document 01's terms: 0 and what was read, or the refusal's number, with E4, E5 and E6 the place in the segment of the kind
+-- octet at fault
 pub record Answer (A : Type 0) : Type 0 where
   pub number : ℕ
+  pub place : Option ℕ
   pub fields : Option A
 
 abbrev pub readAs : {A : Type 0} → A → Answer A
-readAs a = record { number = 0; fields = some a }
+readAs a = record { number = 0; place = none; fields = some a }
 
+-- a refusal's number alone
 abbrev pub refused : {A : Type 0} → ℕ → Answer A
-refused n = record { number = n; fields = none }
+refused n = record { number = n; place = none; fields = none }
+
+abbrev pub refusedAt : {A : Type 0} → Fault → Answer A
+refusedAt fault = record { number = fault .number; place = some (fault .place); fields = none }
 
 -- what was read, as part of more; a refusal stays
 abbrev pub withFields : {A B : Type 0} → (A → B) → Answer A → Answer B
-withFields f a = record { number = a .number; fields = Option·map f (a .fields) }
+withFields f a = record { number = a .number; place = a .place; fields = Option·map f (a .fields) }
 
 -- document 01's number of each refusal
 abbrev pub numberOf : Refusal → ℕ
 numberOf Refusal.TooShort = 1
 numberOf Refusal.TooLong = 2
 numberOf Refusal.BadDataOffset = 3
-numberOf Refusal.BrokenOption = 4
-numberOf Refusal.WrongOptionLength = 5
-numberOf Refusal.RepeatedOption = 6
+numberOf (Refusal.BrokenOption place) = 4
+numberOf (Refusal.WrongOptionLength place) = 5
+numberOf (Refusal.RepeatedOption place) = 6
 
--- the number and the fields of each case of the answer that the code gives
+-- the place of the kind octet at fault, which three of them hold
+abbrev pub faultPlace : Refusal → Option ℕ
+faultPlace Refusal.TooShort = none
+faultPlace Refusal.TooLong = none
+faultPlace Refusal.BadDataOffset = none
+faultPlace (Refusal.BrokenOption place) = some place
+faultPlace (Refusal.WrongOptionLength place) = some place
+faultPlace (Refusal.RepeatedOption place) = some place
+
+-- the number, the place and the fields of each case of the answer that the code gives
 abbrev pub shown : Reading → Answer Segment
 shown (Reading.Segment segment) = readAs segment
-shown (Reading.Refused why) = refused (numberOf why)
+shown (Reading.Refused why) = record { number = numberOf why; place = faultPlace why; fields = none }
 
--- the options of the steps, or the first fault's number
+-- the options of the steps, or the first fault
 unfoldable pub optionsRead : List Step → Answer Options
-optionsRead steps =
-    let fault = faultIn [] steps in
-    cond (eqb fault 0) (readAs (optionsOf steps)) (refused fault)
+optionsRead steps = Option·elim (faultIn [] steps) (readAs (optionsOf steps)) refusedAt
 
 -- the high half of octet 12, in 4-octet units
 abbrev pub dataOffset : List ℕ → ℕ
@@ -83,9 +96,9 @@ flagsOf octet = record {
 abbrev pub lenOf : ℕ → Flags → ℕ
 lenOf payload flags = payload + cond (flags .syn) 1 0 + cond (flags .fin) 1 0
 
--- the fields of a segment whose header ends at `end`
-unfoldable pub segmentOf : List ℕ → ℕ → Options → Segment
-segmentOf s end options = record {
+-- the fields of a segment whose header ends at `end`, with what its options say and how many were skipped
+unfoldable pub segmentOf : List ℕ → ℕ → ℕ → Options → Segment
+segmentOf s end skipped options = record {
   source = numberAt 2 s 0;
   destination = numberAt 2 s 2;
   seq = record { 0 = numberAt 4 s 4 };
@@ -94,6 +107,7 @@ segmentOf s end options = record {
   window = numberAt 2 s 14;
   urgent = numberAt 2 s 18;
   options = options;
+  skipped = skipped;
   payload = record { start = end; length = length s - end };
   len = lenOf (length s - end) (flagsOf (getD s 13 0));
 }
@@ -101,7 +115,7 @@ segmentOf s end options = record {
 -- E1, E2, E3 in this order, then the options from left to right
 unfoldable pub reading : List ℕ → Answer Segment
 reading s =
-    let byOptions = withFields (segmentOf s (4 * dataOffset s)) (optionsRead (stepsOf s)) in
+    let byOptions = withFields (segmentOf s (4 * dataOffset s) (skippedIn (stepsOf s))) (optionsRead (stepsOf s)) in
     cond (ltb (length s) 20) (refused 1)
     (cond (ltb 65535 (length s)) (refused 2)
     (cond (ltb (dataOffset s) 5 || ltb (length s) (4 * dataOffset s)) (refused 3)

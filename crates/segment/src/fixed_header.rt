@@ -49,10 +49,10 @@ fn one_if(flag: bool) -> u32
     if flag { 1 } else { 0 }
 }
 
-// The fields of a segment whose header ends at `end` and whose options are known.
-pub fn fields(segment: &[u8], end: usize, options: Options) -> Segment
+// The fields of a segment whose header ends at `end`, with its options and how many of them were skipped.
+pub fn fields(segment: &[u8], end: usize, skipped: usize, options: Options) -> Segment
     requires { ⌜ (end ≤ length (now segment)) × (length (now segment) ≤ 65535) ⌝ }
-    ensures { λ r. ⌜ r ≡ segmentOf (now (segment .entry)) end options ⌝ }
+    ensures { λ r. ⌜ r ≡ segmentOf (now (segment .entry)) end skipped options ⌝ }
 {
     let source = read_u16(segment, 0);
     let destination = read_u16(segment, 2);
@@ -73,6 +73,7 @@ pub fn fields(segment: &[u8], end: usize, options: Options) -> Segment
         window,
         urgent,
         options,
+        skipped,
         payload,
         len,
     }

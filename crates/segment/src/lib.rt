@@ -2,7 +2,7 @@
 mod finding;
 mod fixed_header;
 pub mod kinds;
-mod places;
+mod notes;
 mod rules;
 mod values;
 
@@ -83,19 +83,22 @@ pub struct Segment {
     pub window: u16,
     pub urgent: u16,
     pub options: Options,
+    // How many unknown options were skipped.
+    pub skipped: usize,
     pub payload: Payload,
     // LEN: the payload's octets, plus 1 for SYN, plus 1 for FIN.
     pub len: u32,
 }
 
-// Why a segment is refused: E1 to E6, in this order.
+// Why a segment is refused: E1 to E6, in this order. An option at fault has the place in the segment of its kind octet.
 pub enum Refusal {
     TooShort,
     TooLong,
     BadDataOffset,
-    BrokenOption,
-    WrongOptionLength,
-    RepeatedOption,
+    BrokenOption(u8),
+    WrongOptionLength(u8),
+    // The second one's place.
+    RepeatedOption(u8),
 }
 
 impl Refusal {
@@ -107,9 +110,9 @@ impl Refusal {
             Refusal::TooShort => 1,
             Refusal::TooLong => 2,
             Refusal::BadDataOffset => 3,
-            Refusal::BrokenOption => 4,
-            Refusal::WrongOptionLength => 5,
-            Refusal::RepeatedOption => 6,
+            Refusal::BrokenOption(_) => 4,
+            Refusal::WrongOptionLength(_) => 5,
+            Refusal::RepeatedOption(_) => 6,
         }
     }
 }
@@ -148,14 +151,17 @@ pub fn read(segment: &[u8]) -> Reading
     if segment.len() < end {
         return Reading::Refused(Refusal::BadDataOffset);
     }
-    let listing = rules::padding_rule(&segment[0..end], FIXED_HEADER, places::none());
+    let listing = rules::padding_rule(&segment[0..end], FIXED_HEADER, notes::none());
     match listing {
-        Listing::Listed(places) => {
-            let options = values::options(segment, places);
-            Reading::Segment(fixed_header::fields(segment, end, options))
+        Listing::Listed(notes) => {
+            let options = values::options(segment, notes);
+            let skipped = notes.skipped as usize;
+            Reading::Segment(fixed_header::fields(segment, end, skipped, options))
         }
         // Returned at once, so that the fields of a segment are stored as they are read.
-        Listing::Refused(why) => return Reading::Refused(why),
+        Listing::Broken(place) => return Reading::Refused(Refusal::BrokenOption(place)),
+        Listing::WrongLength(place) => return Reading::Refused(Refusal::WrongOptionLength(place)),
+        Listing::Repeated(place) => return Reading::Refused(Refusal::RepeatedOption(place)),
     }
 }
 

@@ -9,7 +9,7 @@ use super::Mss;
 use super::Options;
 use super::SackBlocks;
 use super::Timestamps;
-use super::places::Places;
+use super::notes::Notes;
 use octets::read_u8;
 use octets::read_u16;
 use octets::read_u32;
@@ -18,18 +18,18 @@ use serial::Range;
 use serial::Seq;
 use serial::Stamp;
 
-// The values of the options that stand at these places.
-pub fn options(segment: &[u8], places: Places) -> Options
-    ensures { λ r. ⌜ ((steps : List Step) → Noted steps places → StandAll (now (segment .entry)) steps → r ≡ optionsOf steps) ⌝ }
+// The values of the options whose places are noted.
+pub fn options(segment: &[u8], notes: Notes) -> Options
+    ensures { λ r. ⌜ ((steps : List Step) → Noted steps notes → StandAll (now (segment .entry)) steps → r ≡ optionsOf steps) ⌝ }
 {
-    let mss = mss(segment, places.mss);
-    let scale = scale(segment, places.scale);
-    let blocks = sack_blocks(segment, places.sack);
-    let timestamps = timestamps(segment, places.timestamps);
+    let mss = mss(segment, notes.mss);
+    let scale = scale(segment, notes.scale);
+    let blocks = sack_blocks(segment, notes.sack);
+    let timestamps = timestamps(segment, notes.timestamps);
     Options {
         mss,
         scale,
-        permitted: places.permitted != 0,
+        permitted: notes.permitted != 0,
         blocks,
         timestamps,
     }

@@ -84,25 +84,25 @@ module _ {o : Options} {rest : List ℕ} {o′ : Options} where
   pub mss-read : (n : ℕ) → o .mss ≡ Mss.Absent → Reads (withMss o (Mss.Octets n)) rest o′ → Reads o (2 ∷ 4 ∷ (bigEndian 2 n ++ rest)) o′
   unfolding isWrongLength lengthsOf standsIn bigEndian numberAt
   mss-read n new then =
-      option-read 2 4 (bigEndian 2 n) (omega arith) refl refl (λ before said. mss-new before (rw said new))
+      option-read 2 4 (bigEndian 2 n) (omega arith) refl refl refl (λ before said. mss-new before (rw said new))
       (subst (λ (x : ℕ). Reads (withMss o (Mss.Octets x)) rest o′) (sym (numberAt-bigEndian 1 n [])) then)
 
   pub scale-read : (n : ℕ) → o .scale ≡ Scale.Absent → Reads (withScale o (Scale.Shift n)) rest o′ → Reads o (3 ∷ 3 ∷ n ∷ rest) o′
   unfolding isWrongLength lengthsOf standsIn
   scale-read n new then =
-      option-read 3 3 (n ∷ []) (omega arith) refl refl (λ before said. scale-new before (rw said new)) then
+      option-read 3 3 (n ∷ []) (omega arith) refl refl refl (λ before said. scale-new before (rw said new)) then
 
   pub permitted-read : o .permitted ≡ false → Reads (withPermitted o true) rest o′ → Reads o (4 ∷ 2 ∷ rest) o′
   unfolding isWrongLength lengthsOf standsIn
   permitted-read new then =
-      option-read 4 2 [] (omega arith) refl refl (λ before said. permitted-new before (rw said new)) then
+      option-read 4 2 [] (omega arith) refl refl refl (λ before said. permitted-new before (rw said new)) then
 
   pub timestamps-read : (value echoed : ℕ) → o .timestamps ≡ Timestamps.Absent
       → Reads (withTimestamps o (Timestamps.Pair (record { 0 = value }) (record { 0 = echoed }))) rest o′
       → Reads o (stampsWritten value echoed ++ rest) o′
   unfolding isWrongLength lengthsOf standsIn bigEndian numberAt
   timestamps-read value echoed new then =
-      option-read 8 10 (bigEndian 4 value ++ bigEndian 4 echoed) (omega arith) refl refl
+      option-read 8 10 (bigEndian 4 value ++ bigEndian 4 echoed) (omega arith) refl refl refl
       (λ before said. timestamps-new before (rw said new))
       (subst (λ (x : Timestamps). Reads (withTimestamps o x) rest o′)
       (λ i. Timestamps.Pair (record { 0 = sym (numberAt-bigEndian 3 value []) i }) (record { 0 = sym (numberAt-bigEndian 3 echoed []) i })) then)
@@ -111,8 +111,9 @@ module _ {o : Options} {rest : List ℕ} {o′ : Options} where
   pub sack-read : (b : Range) (bs : List Range) → length bs ≤ 3 → o .blocks ≡ SackBlocks.Absent
       → Reads (withBlocks o (blocksOfList (b ∷ bs))) rest o′
       → Reads o (5 ∷ (8 * length (b ∷ bs) + 2) ∷ (blocksWritten (b ∷ bs) ++ rest)) o′
+  unfolding standsIn
   sack-read b bs few new then =
       let n : ℕ = 8 * length (b ∷ bs) + 2 in
-      option-read 5 n (blocksWritten (b ∷ bs)) (omega arith) (omega (arith, length-blocks (b ∷ bs))) (sack-length (length bs) few)
+      option-read 5 n (blocksWritten (b ∷ bs)) (omega arith) refl (omega (arith, length-blocks (b ∷ bs))) (sack-length (length bs) few)
       (λ before said. sack-new before (rw said new))
       (subst (λ (x : SackBlocks). Reads (withBlocks o x) rest o′) (sym (sack-back b bs n)) then)

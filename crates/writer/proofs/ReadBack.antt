@@ -45,10 +45,10 @@ module _ (h : Header) (o : Options) where
   options-octets = ap (drop 20) (take-all (4 * dataOffset (written h o)) (written h o) (omega (arith, end-is, length-written h o)))
 
   options-said : Said [] (stepsOf (written h o)) (withBlocks o (blocksOfList (fitting o)))
-  options-said = rw options-octets (options-read o .steps 20 [] refl)
+  options-said = rw options-octets (options-read o .steps 20 [] refl refl)
 
   -- each field of the header is the number that was written there
-  fields-back : segmentOf (written h o) (20 + length (optionsWritten o)) (withBlocks o (blocksOfList (fitting o))) ≡ segmentWritten h o
+  fields-back : segmentOf (written h o) (20 + length (optionsWritten o)) 0 (withBlocks o (blocksOfList (fitting o))) ≡ segmentWritten h o
   unfolding segmentOf segmentWritten written headerWritten bigEndian numberAt
   fields-back =
       let payload : length (written h o) - (20 + length (optionsWritten o)) ≡ 0 = omega (arith, length-written h o) in
@@ -62,14 +62,15 @@ module _ (h : Header) (o : Options) where
         window = numberAt-bigEndian 1 (h .window) [] i;
         urgent = 0;
         options = withBlocks o (blocksOfList (fitting o));
+        skipped = 0;
         payload = record { start = 20 + length (optionsWritten o); length = payload i };
         len = lenOf (payload i) (flags i);
       }
 
   pub read-back : reading (written h o) ≡ readAs (segmentWritten h o)
   read-back =
-      read-if (written h o) passed (options-said .0)
-      ∙ ap readAs (rw (options-said .1, end-is) fields-back)
+      read-if (written h o) passed (options-said .no-fault)
+      ∙ ap readAs (rw (options-said .none-skipped, options-said .options-are, end-is) fields-back)
 
   -- and so are the octets that the writer leaves at the start of a buffer
   pub buffer-read-back : (buffer : List ℕ) → length (written h o) ≤ length buffer

@@ -104,6 +104,7 @@ segmentWritten h o = record {
     blocks = blocksOfList (fitting o);
     timestamps = o .timestamps;
   };
+  skipped = 0;
   payload = record { start = 20 + length (optionsWritten o); length = 0 };
   len = lenOf 0 (h .flags);
 }

@@ -3,15 +3,20 @@
 use crate::connection::Connection;
 use crate::options::Options;
 use crate::ranges::Range;
-use crate::refusal::Refusal;
+use crate::refusal::{Place, Refusal};
 use crate::segment::Segment;
-use crate::verdict::{Taken, Verdict};
+use crate::verdict::{Judged, Taken, Verdict};
 
 pub fn sum_of_reading(read: &Result<Segment, Refusal>) -> u64 {
     match read {
         Ok(segment) => sum_of_segment(segment),
-        Err(refusal) => u64::from(refusal.number()),
+        Err(refusal) => sum_of_refusal(refusal),
     }
+}
+
+fn sum_of_refusal(refusal: &Refusal) -> u64 {
+    let place = refusal.place().map_or(0, |Place(place)| place);
+    u64::from(refusal.number()) + u64::from(place)
 }
 
 fn sum_of_segment(segment: &Segment) -> u64 {
@@ -36,13 +41,20 @@ fn sum_of_options(options: &Options) -> u64 {
         + u64::from(options.sack_permitted)
         + stamps
         + options.sack.iter().map(sum_of_edges).sum::<u64>()
+        + u64::from(options.skipped)
 }
 
-pub fn sum_of_arrival(arrived: &Result<Verdict, Refusal>) -> u64 {
+pub fn sum_of_arrival(arrived: &Result<Judged, Refusal>) -> u64 {
     match arrived {
-        Ok(Verdict::Take(taken)) => sum_of_taken(taken),
-        Ok(verdict) => u64::from(verdict.number()),
-        Err(refusal) => u64::from(refusal.number()),
+        Ok(judged) => sum_of_verdict(&judged.verdict) + u64::from(judged.skipped),
+        Err(refusal) => sum_of_refusal(refusal),
+    }
+}
+
+fn sum_of_verdict(verdict: &Verdict) -> u64 {
+    match verdict {
+        Verdict::Take(taken) => sum_of_taken(taken),
+        verdict => u64::from(verdict.number()),
     }
 }
 

@@ -73,14 +73,19 @@ fn readings() {
         .timestamps(Stamp(30), Stamp(40))
         .sack(&[range(Seq(100), Seq(200))])
         .build();
+    let unknown = data(7_000, 0).options(&[99, 2, 1, 98, 3, 0, 0, 0]).build();
+    let repeated = data(7_000, 0).options(&[99, 2, 4, 2, 1, 4, 2, 0]).build();
     let measured = script(&[
         Call::Read { segment: &segment },
         Call::Read { segment: &[0; 19] },
         Call::Read { segment: &[0; 20] },
+        Call::Read { segment: &unknown },
+        Call::Read { segment: &repeated },
     ]);
     let header = 12_345 + 443 + 7_000 + 1_001 + 2 + 8_192 + 9;
     let options = 1_460 + 7 + 1 + 30 + 40 + 100 + 200;
-    let sum = header + options + 52 + 3 + 1 + 3;
+    let with_unknown = 12_345 + 443 + 7_000 + 1_001 + 1 + 8_192 + 28 + 2;
+    let sum = header + options + 52 + 3 + 1 + 3 + with_unknown + (6 + 25);
     let expected = format!("{}\n{}\n", sum, 2 * sum);
     assert_eq!(answers(&stream(&[], &measured, &[1, 2])), expected);
 }
@@ -92,14 +97,14 @@ fn arrivals_on_a_record_that_starts_anew_each_round() {
         range(UNA.plus(10), UNA.plus(101)),
     ];
     let measured = arrivals(&[
-        data(5_000, 10),
+        data(5_000, 10).options(&[99, 2, 0, 0]),
         data(5_020, 5),
         data(5_010, 4).flags(ACK | FIN),
         data(5_015, 0).sack(&blocks),
-        data(5_015, 1).flags(PSH),
+        data(5_015, 1).flags(PSH).options(&[99, 2, 99, 2]),
         SegmentBuilder::data(Seq(5_015), UNA.plus(1), 0).options(&[2, 3, 0, 0]),
     ]);
-    let calls = 10 + (10 + 5) + (5 + 1) + (1_011 + 1_021) + 28 + 5;
+    let calls = (10 + 1) + (10 + 5) + (5 + 1) + (1_011 + 1_021) + (28 + 2) + (5 + 20);
     let sum = calls + 5_015 + 1_001 + 1_000;
     let expected = format!("{}\n{}\n0\n{}\n", sum, 3 * sum, sum);
     assert_eq!(

@@ -4,9 +4,14 @@ use super::*;
 use crate::builder::SegmentBuilder;
 use crate::cases::{self, opening, syn, CLOCK, ISS, UNA};
 use crate::ranges::Range;
+use crate::refusal::Place;
 use crate::segment::{ACK, FIN, RST, SYN};
 use crate::serial::HALF;
 use crate::timer::MIN_RTO;
+
+fn open(opening: &Opening, syn: &SegmentBuilder) -> Connection {
+    Connection::open(opening, &syn.build()).unwrap().connection
+}
 
 /// A record at RCV.NXT 5000 with SACK in force.
 fn with_sack() -> Connection {
@@ -14,7 +19,7 @@ fn with_sack() -> Connection {
         sack: true,
         ..opening()
     };
-    Connection::open(&opening, &syn().sack_permitted().build()).unwrap()
+    open(&opening, &syn().sack_permitted())
 }
 
 /// A record at RCV.NXT 5000 with timestamps in force and TS.Recent 100.
@@ -23,8 +28,7 @@ fn with_timestamps() -> Connection {
         timestamps: true,
         ..opening()
     };
-    let syn = syn().timestamps(Stamp(100), Stamp(0));
-    Connection::open(&opening, &syn.build()).unwrap()
+    open(&opening, &syn().timestamps(Stamp(100), Stamp(0)))
 }
 
 fn data(seq: u32, length: usize) -> SegmentBuilder {
@@ -33,14 +37,25 @@ fn data(seq: u32, length: usize) -> SegmentBuilder {
 
 fn arrive(connection: &mut Connection, clock: u64, segment: &SegmentBuilder) -> u8 {
     match connection.arrive(clock, &segment.build()) {
-        Ok(verdict) => verdict.number(),
+        Ok(judged) => judged.verdict.number(),
         Err(refusal) => refusal.number(),
     }
 }
 
+/// The number of a verdict, and the count that comes with it.
+fn judged(connection: &mut Connection, segment: &SegmentBuilder) -> (u8, u8) {
+    let segment = segment.build();
+    let judged = connection.arrive(CLOCK, &segment).unwrap();
+    (judged.verdict.number(), judged.skipped)
+}
+
 /// The new part and the reported blocks of a segment that is taken.
 fn take(connection: &mut Connection, segment: &SegmentBuilder) -> (Part, Vec<Range>) {
-    match connection.arrive(CLOCK, &segment.build()) {
+    let segment = segment.build();
+    match connection
+        .arrive(CLOCK, &segment)
+        .map(|judged| judged.verdict)
+    {
         Ok(Verdict::Take(taken)) => (taken.part, taken.sack.iter().collect()),
         other => panic!("not taken: {:?}", other),
     }
@@ -68,7 +83,7 @@ fn m4_largest_window() {
         shift: Some(14),
         ..opening()
     };
-    let mut connection = Connection::open(&opening, &syn().scale(14).build()).unwrap();
+    let mut connection = open(&opening, &syn().scale(14));
     assert_eq!(connection.snd_wnd, 8_192);
     take(&mut connection, &data(5_000, 0).window(65_535));
     assert_eq!(connection.snd_wnd, 1_073_725_440);
@@ -86,7 +101,7 @@ fn m5_peer_shift_15_counts_as_14() {
         shift: Some(3),
         ..opening()
     };
-    let connection = Connection::open(&opening, &syn().scale(15).build()).unwrap();
+    let connection = open(&opening, &syn().scale(15));
     assert_eq!((connection.rcv_shift, connection.snd_shift), (3, 14));
 }
 
@@ -370,7 +385,7 @@ fn opening_refusals_in_order() {
     assert_eq!(number(&wide, &syn()), Err(Refusal::OwnOffer));
     assert_eq!(
         number(&opening(), &syn().flags(RST).options(&[8, 2])),
-        Err(Refusal::OptionLength)
+        Err(Refusal::OptionLength(Place(20)))
     );
     assert_eq!(
         number(&opening(), &syn().flags(SYN | RST)),
@@ -386,6 +401,72 @@ fn opening_refusals_in_order() {
         Err(Refusal::WrongOpeningAck)
     );
     assert_eq!(number(&opening(), &wrong_ack.flags(SYN)), Ok(()));
+}
+
+#[test]
+fn an_opening_passes_on_places_and_counts() {
+    let opened = |options: &[u8]| Connection::open(&opening(), &syn().options(options).build());
+    let plain = opened(&[]).unwrap();
+    assert_eq!(plain.skipped, 0);
+    let skipping = opened(&[254, 2, 1, 254, 3, 0]).unwrap();
+    assert_eq!(skipping.skipped, 2);
+    assert_eq!(skipping.connection, plain.connection);
+    assert_eq!(opened(&[1, 254, 1]), Err(Refusal::OptionBounds(Place(21))));
+    assert_eq!(
+        opened(&[254, 2, 3, 2]),
+        Err(Refusal::OptionLength(Place(22)))
+    );
+    assert_eq!(
+        opened(&[4, 2, 254, 2, 4, 2]),
+        Err(Refusal::OptionRepeated(Place(24)))
+    );
+}
+
+#[test]
+fn an_arrival_passes_on_places() {
+    let mut connection = with_timestamps();
+    let before = connection;
+    // Before E8 too.
+    for clock in [CLOCK, CLOCK - 1] {
+        let fault = data(5_000, 1).options(&[254, 2, 4, 2, 4, 2]).build();
+        assert_eq!(
+            connection.arrive(clock, &fault),
+            Err(Refusal::OptionRepeated(Place(24)))
+        );
+    }
+    assert_eq!(connection, before);
+}
+
+#[test]
+fn every_verdict_has_its_count() {
+    let unknown = |segment: SegmentBuilder, count| segment.options(&[254, 2].repeat(count));
+    let stamped = |seq, value| data(seq, 1).timestamps(Stamp(value), Stamp(0));
+    let unsent = SegmentBuilder::data(Seq(5_000), UNA.plus(1), 0).timestamps(Stamp(100), Stamp(0));
+    let segments = [
+        (21, data(5_000, 1)),
+        (22, stamped(5_000, 99)),
+        (23, data(4_000, 1).flags(RST)),
+        (24, stamped(4_000, 100)),
+        (25, data(5_000, 1).flags(RST)),
+        (26, data(5_001, 1).flags(RST)),
+        (27, stamped(5_000, 100).flags(SYN)),
+        (28, stamped(5_000, 100).flags(0)),
+        (29, unsent),
+        (0, stamped(5_000, 100)),
+    ];
+    for (number, segment) in segments {
+        for count in [0, 1, 15] {
+            let segment = unknown(segment.clone(), count);
+            let verdict = judged(&mut with_timestamps(), &segment);
+            assert_eq!(verdict, (number, count as u8));
+        }
+    }
+    let mut connection = with_sack();
+    for index in 1..=8 {
+        take(&mut connection, &data(5_000 + 10 * index, 2));
+    }
+    let ninth = unknown(data(5_090, 2), 20);
+    assert_eq!(judged(&mut connection, &ninth), (30, 20));
 }
 
 #[test]

@@ -9,7 +9,7 @@ use crate::serial::{Seq, Stamp, HALF};
 
 use super::edges::{beside, round_trip, serial_near};
 use super::opening::random_window_field;
-use super::{damage, Generator, Pattern, LONG_ARRIVAL_RATE, LONG_FREE_RATE};
+use super::{damage, unknown, Generator, Pattern, LONG_ARRIVAL_RATE, LONG_FREE_RATE};
 
 impl Generator {
     pub(super) fn random_arrival(&mut self, connection: &Connection, clock: u64) -> Vec<u8> {
@@ -31,10 +31,10 @@ impl Generator {
         if random.percent(20) {
             segment = with_sack(random, segment, connection, ack);
         }
-        if random.percent(8) && segment.option_room() >= 4 {
-            segment = segment.options(&[1, 254, 3, 0]);
-        }
         let mut octets = segment.build();
+        if random.percent(20) {
+            unknown::scatter(random, &mut octets);
+        }
         if random.percent(4) {
             damage::damage(random, &mut octets);
         }

@@ -1,10 +1,12 @@
 //! Random segments with random options, and damage to headers and options.
 
 use crate::builder::{SegmentBuilder, MAX_OPTIONS};
-use crate::options::{Walk, MSS, SACK, SACK_PERMITTED, TIMESTAMPS, WINDOW_SCALE};
+use crate::options::{PlacedOption, Walk, MSS, SACK, SACK_PERMITTED, TIMESTAMPS, WINDOW_SCALE};
 use crate::random::Random;
 use crate::segment::HEADER_LENGTH;
 use crate::serial::Seq;
+
+use super::unknown::{scatter, unknown_kind};
 
 const KNOWN: [(u8, &[usize]); 5] = [
     (MSS, &[4]),
@@ -32,6 +34,9 @@ pub fn random_segment(random: &mut Random) -> Vec<u8> {
         .options(&options)
         .payload(payload)
         .build();
+    if random.percent(25) {
+        scatter(random, &mut octets);
+    }
     if random.percent(40) {
         damage(random, &mut octets);
     }
@@ -55,7 +60,7 @@ fn random_option(random: &mut Random) -> Vec<u8> {
         0 | 1 => vec![1],
         2 => vec![random.pick(&[0, 1, 1])],
         3 => {
-            let kind = random.pick(&[6, 7, 9, 254, 255]);
+            let kind = unknown_kind(random);
             let length = 2 + random.index(6);
             option_of(random, kind, length)
         }
@@ -67,7 +72,8 @@ fn random_option(random: &mut Random) -> Vec<u8> {
     }
 }
 
-fn option_of(random: &mut Random, kind: u8, length: usize) -> Vec<u8> {
+/// An option with a random body.
+pub fn option_of(random: &mut Random, kind: u8, length: usize) -> Vec<u8> {
     let mut option = vec![kind, length as u8];
     option.extend(random.octets(length - 2));
     option
@@ -113,19 +119,24 @@ fn insert_options(random: &mut Random, octets: &mut Vec<u8>) {
         [254, 2, 254, 2],
     ]);
     if octets[12] >> 4 < 15 {
-        octets[12] += 1 << 4;
-        octets.splice(HEADER_LENGTH..HEADER_LENGTH, options);
+        insert(octets, HEADER_LENGTH, &options);
     }
 }
 
+/// Puts options of a multiple of 4 octets into a header that has room for them.
+pub fn insert(octets: &mut Vec<u8>, at: usize, options: &[u8]) {
+    octets[12] += (options.len() as u8 / 4) << 4;
+    octets.splice(at..at, options.iter().copied());
+}
+
 /// Overwrites the kind or the length of one option, or puts a kind at the header's end.
-fn damage_options(random: &mut Random, octets: &mut [u8]) {
-    let end = (usize::from(octets[12] >> 4) * 4).min(octets.len());
-    let starts = option_starts(octets, end);
-    if starts.is_empty() {
+pub fn damage_options(random: &mut Random, octets: &mut [u8]) {
+    let end = header_end(octets);
+    let options = options_of(octets);
+    if options.is_empty() {
         return;
     }
-    let start = random.pick(&starts);
+    let start = usize::from(random.pick(&options).place.0);
     let room = (end - start) as u8;
     let length = octets[start + 1];
     match random.below(8) {
@@ -143,14 +154,15 @@ fn damage_options(random: &mut Random, octets: &mut [u8]) {
     }
 }
 
-/// Where the options of a header start.
-fn option_starts(octets: &[u8], end: usize) -> Vec<usize> {
-    let mut starts = Vec::new();
-    if end > HEADER_LENGTH {
-        let mut walk = Walk::new(&octets[HEADER_LENGTH..end]);
-        while let Some(Ok(option)) = walk.next() {
-            starts.push(end - walk.rest().len() - option.len());
-        }
+/// Where the header ends, by its data offset or with the segment.
+pub fn header_end(octets: &[u8]) -> usize {
+    (usize::from(octets[12] >> 4) * 4).min(octets.len())
+}
+
+/// The options of a header up to the first that is out of bounds.
+pub fn options_of(octets: &[u8]) -> Vec<PlacedOption<'_>> {
+    match &octets[..header_end(octets)] {
+        header if header.len() > HEADER_LENGTH => Walk::new(header).flatten().collect(),
+        _ => Vec::new(),
     }
-    starts
 }

@@ -6,6 +6,7 @@ mod clock;
 mod damage;
 mod edges;
 mod opening;
+mod unknown;
 
 use crate::connection::Connection;
 use crate::play::Player;
@@ -371,5 +372,17 @@ mod tests {
             "{:?}",
             missing
         );
+    }
+
+    #[test]
+    fn places_and_counts_go_far() {
+        let counts = Counts::of(&random_script(6, 40_000));
+        for name in ["read", "open", "arrive"] {
+            let most = |number| counts.span(name, number).map_or(0, |(_, most)| most);
+            assert!(most(0) >= 10, "{} {}", name, most(0));
+            for number in 4..=6 {
+                assert!(most(number) >= 40, "{} {} {}", name, number, most(number));
+            }
+        }
     }
 }

@@ -9,7 +9,7 @@ use crate::serial::{Seq, Stamp};
 use super::arrival::longest_length;
 use super::clock::opening_clock;
 use super::edges::{beside, serial_near, serial_start};
-use super::{damage, Generator, LONG_SYN_RATE};
+use super::{damage, unknown, Generator, LONG_SYN_RATE};
 
 impl Generator {
     pub(super) fn random_opening(&mut self) -> Opening {
@@ -54,6 +54,9 @@ impl Generator {
             syn = syn.payload(random.index(20));
         }
         let mut octets = syn.build();
+        if random.percent(25) {
+            unknown::scatter(random, &mut octets);
+        }
         if random.percent(12) {
             damage::damage(random, &mut octets);
         }

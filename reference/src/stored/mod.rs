@@ -4,6 +4,7 @@ mod acknowledging;
 mod answering;
 mod calls;
 mod edges;
+mod faults;
 mod fields;
 mod finding;
 mod holding;
@@ -19,6 +20,7 @@ mod refusing;
 mod rfc2018;
 mod send_side;
 mod sending;
+mod skipped;
 mod stream;
 mod taking;
 mod timers;
@@ -50,6 +52,8 @@ pub fn script() -> Vec<u8> {
     reading::add(&mut calls);
     fields::add(&mut calls);
     refusing::add(&mut calls);
+    faults::add(&mut calls);
+    skipped::add(&mut calls);
     finding::add(&mut calls);
     offering::add(&mut calls);
     opening::add(&mut calls);
@@ -91,6 +95,20 @@ mod tests {
     }
 
     #[test]
+    fn places_and_counts_are_reached_at_their_limits_by_every_call_that_gives_them() {
+        let counts = Counts::of(&script());
+        for name in ["read", "open", "arrive"] {
+            assert_eq!(counts.span(name, 0), Some((0, 20)));
+            assert_eq!(counts.span(name, 4), Some((20, 59)));
+            assert_eq!(counts.span(name, 5), Some((20, 58)));
+            assert_eq!(counts.span(name, 6), Some((22, 58)));
+        }
+        for number in 21..=30 {
+            assert!(matches!(counts.span("arrive", number), Some((0, 1..))));
+        }
+    }
+
+    #[test]
     fn the_last_line_alone_is_bad() {
         let lines = play(&script());
         assert!(lines.ends_with("\nbad\n"));
@@ -102,7 +120,7 @@ mod tests {
         let lines = play(&script());
         let closed = lines.lines().filter(|&line| line == "closed").count();
         assert_eq!(closed, 5);
-        assert!(lines.contains("open 9\nrecord -\n"));
+        assert!(lines.contains("open 9 -\nrecord -\n"));
     }
 
     #[test]

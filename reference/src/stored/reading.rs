@@ -26,7 +26,7 @@ pub fn add(calls: &mut CallList) {
 }
 
 /// By read, by the C entry, by an arrival and by an opening.
-fn add_everywhere(calls: &mut CallList, segment: &[u8]) {
+pub fn add_everywhere(calls: &mut CallList, segment: &[u8]) {
     calls.read_by_both(segment);
     calls.arrive_octets(CLOCK, segment);
     calls.add(&Call::Open {
@@ -39,7 +39,7 @@ fn header() -> SegmentBuilder {
     SegmentBuilder::new(NEXT, UNA, ACK)
 }
 
-fn with_options(options: &[u8]) -> Vec<u8> {
+pub fn with_options(options: &[u8]) -> Vec<u8> {
     header().options(options).build()
 }
 
@@ -89,7 +89,7 @@ fn faulty_options() -> Vec<Vec<u8>> {
 }
 
 /// An option of so many octets.
-fn filled_option(kind: u8, length: usize) -> Vec<u8> {
+pub fn filled_option(kind: u8, length: usize) -> Vec<u8> {
     let mut option = vec![kind, length as u8];
     option.resize(length, 7);
     option

@@ -1,14 +1,17 @@
 -- E1, E2 and E3 by the tests, then what the rules make of the options. Assumes nothing.
 use mathlib.Core.List.{[]}
-use mathlib.Core.Path.{sym, ap, subst, _∙_}
+use mathlib.Core.Option.{some}
+use mathlib.Core.Path.{_≡_, sym, ap, _∙_}
 use Prim.Native.Nat.{_-_, _*_}
 use native.Mathlib.Omega.{arith}
 use lib.ListN.{length, length-take}
 use denote.Ref.{now}
 use borrow.Author.Needs.{needs}
 use borrow.Author.Tests.{le-ltb, lt-ltb}
-use Rattle.segment.specs.Reading.{dataOffset, readAs, reading, segmentOf, stepsOf}
-use Rattle.segment.specs.Internal.{Outcome}
+use Rattle.segment.specs.Options.{Fault}
+use Rattle.segment.specs.Reading.{dataOffset, readAs, reading, refusedAt, segmentOf, stepsOf}
+use Rattle.segment.specs.Internal.{Outcome, faultOf}
+use Rattle.segment.specs.declared.notes.Notes.{Notes}
 use Rattle.segment.proofs.ByOctet.{options-there}
 use Rattle.segment.proofs.Readable.{Passed, read-if, refused-if}
 use Rattle.segment.proofs.Standing.{stand-all}
@@ -87,7 +90,7 @@ padding-rule-requires : tie.Need-padding-rule-requires
 padding-rule-requires c κs =
     let end = c .before .before .before .before .end in
     let s = now (c .before .before .before .before .before .before .before .before .args .segment) in
-    (omega arith, omega (arith, end .ensures .1, length-take (end .result - 0) s))
+    (omega arith, omega (arith, ap (λ (x : Notes). x .skipped) (c .none .ensures .are)), omega (arith, end .ensures .1, length-take (end .result - 0) s))
 
 enum-known-listing : tie.Need-enum-known-listing
 enum-known-listing c = search needs
@@ -98,27 +101,45 @@ options-requires c κs = search needs
 fields-requires : tie.Need-fields-requires
 fields-requires c κs = search needs
 
+cast-skipped : tie.Need-cast-skipped
+cast-skipped c = search needs
+
 enum-known-listing-2 : tie.Need-enum-known-listing-2
 enum-known-listing-2 c = search needs
 
+enum-known-listing-3 : tie.Need-enum-known-listing-3
+enum-known-listing-3 c = search needs
+
+enum-known-listing-4 : tie.Need-enum-known-listing-4
+enum-known-listing-4 c = search needs
+
+-- where the rules end with a fault
+refuses : (c : tie.After-padding-rule) → let s = now (c .before .before .before .before .before .before .before .before .before .args .segment) in
+    (fault : Fault) → faultOf (c .padding-rule .result) ≡ some fault → refusedAt fault ≡ reading s
+refuses c fault is = sym (refused-if _ (passed (c .before .before .before)) fault (outcome c .fault-is ∙ is))
+
 returns-5 : tie.Need-returns-5
-returns-5 c =
-    let p = c .before .before .before in
-    let s = now (c .before .before .before .before .before .before .before .before .before .before .before .before .args .segment) in
-    let why = c .before .listing2 .given .0 .0 in
-    let o = subst (Outcome [] (stepsOf s)) (c .before .listing2 .given .1) (outcome p) in
-    let k = passed (p .before .before .before) in
-    sym (refused-if s k why o)
+returns-5 c = refuses (c .before .before .before) _ (ap faultOf (c .before .listing2 .given .1))
 
 returns-6 : tie.Need-returns-6
-returns-6 c =
-    let p = c .before .before .before .before .before in
-    let s = now (c .before .before .before .before .before .before .before .before .before .before .before .before .before .before .args .segment) in
-    let o = subst (Outcome [] (stepsOf s)) (c .before .before .before .listing .given .1) (outcome p) in
+returns-6 c = refuses (c .before .before .before) _ (ap faultOf (c .before .listing3 .given .1))
+
+returns-7 : tie.Need-returns-7
+returns-7 c = refuses (c .before .before .before) _ (ap faultOf (c .before .listing4 .given .1))
+
+returns-8 : tie.Need-returns-8
+returns-8 c =
+    let p = c .before .before .before .before .before .before in
+    let s = now (c .before .before .before .before .before .before .before .before .before .before .before .before .before .before .before .args .segment) in
+    let listed = c .before .before .before .before .listing .given .1 in
+    let o = outcome p in
+    let noted = o .noted _ listed in
+    let faultless = o .fault-is ∙ ap faultOf listed in
     let k = passed (p .before .before .before) in
-    let options = c .before .options .ensures (stepsOf s) (o .1) (stand-all s (k .offset-least) (o .0)) in
+    let options = c .before .before .options .ensures (stepsOf s) noted (stand-all s (k .offset-least) faultless) in
     let end = p .before .before .before .before .before .end .ensures .0 in
-    ap readAs (c .fields .ensures ∙ (λ i. segmentOf s (end i) (options i))) ∙ sym (read-if s k (o .0))
+    let skipped = ap (λ (x : Notes). x .skipped) (noted .are) in
+    ap readAs (c .fields .ensures ∙ (λ i. segmentOf s (end i) (skipped i) (options i))) ∙ sym (read-if s k faultless)
 
 pub read-spec : {M : Type 1} → statement M
 read-spec =
@@ -136,7 +157,12 @@ read-spec =
     padding-rule-requires
     enum-known-listing
     options-requires
+    cast-skipped
     fields-requires
     enum-known-listing-2
     returns-5
-    returns-6)
+    enum-known-listing-3
+    returns-6
+    enum-known-listing-4
+    returns-7
+    returns-8)

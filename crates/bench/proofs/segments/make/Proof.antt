@@ -30,11 +30,8 @@ read-requires c κs = search needs
 enum-known-reading : tie.Need-enum-known-reading Inv-loop μ-loop
 enum-known-reading c = search needs
 
-number-requires : tie.Need-number-requires Inv-loop μ-loop
-number-requires c κs = search needs
-
-cast-add : tie.Need-cast-add Inv-loop μ-loop
-cast-add c = search needs
+refusal-requires : tie.Need-refusal-requires Inv-loop μ-loop
+refusal-requires c κs = search needs
 
 add-requires : tie.Need-add-requires Inv-loop μ-loop
 add-requires c κs = search needs
@@ -102,8 +99,7 @@ make-spec =
     part-requires
     read-requires
     enum-known-reading
-    number-requires
-    cast-add
+    refusal-requires
     add-requires
     enum-known-reading-2
     segment-requires

@@ -5,7 +5,7 @@ use borrow.Author.Tests.{le-ltb, lt-ltb}
 use Rattle.connection.specs.Numbers.{Decision}
 use Rattle.connection.specs.declared.Arrival as declared
 use Rattle.connection.specs.Record.{Sound}
-use Rattle.connection.specs.Arriving.{arrivingRead, isTake, judged, settled, shown, unchanged}
+use Rattle.connection.specs.Arriving.{arrivingRead, isTake, judged, notTaken, settled, shown}
 use Rattle.connection.proofs.Keeping.{SoundArrival, arriving-read-sound}
 use borrow.Author.Needs.{needs}
 use Rattle.connection.proofs.Connection.arrive_read.Statement.{statement}
@@ -48,7 +48,7 @@ unfolding arrivingRead judged settled
 returns-3 c =
     let decision = ap (λ (d : Decision). isTake (d .action)) (sym (c .before .before .before .judge .ensures)) in
     let drops = decision ∙ (sym (c .before .before .is-take .ensures) ∙ c .before .if2 .left) in
-    let is = c .unchanged2 .ensures ∙ ap (unchanged (c .before .before .before .before .before .before .args .self)) (c .before .before .before .judge .ensures) in
+    let is = c .unchanged2 .ensures ∙ ap (notTaken (c .before .before .before .before .before .before .args .self) (c .before .before .before .before .before .before .args .s)) (c .before .before .before .judge .ensures) in
     answered (c .before .before .before .before .before .before) (c .unchanged2 .result)
     (rw (le-ltb _ _ (c .before .before .before .before .if1 .left), drops) is)
 

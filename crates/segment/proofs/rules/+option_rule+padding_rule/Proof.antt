@@ -1,30 +1,33 @@
 -- The two rules, which call each other. The measure is document 01's: twice the octets left, plus one in the padding rule. Each return
 -- cites the law of the step that its way through the code meets. Assumes nothing.
 use mathlib.Core.Bool.{false}
-use mathlib.Core.List.{List, [], _∷_, _++_}
+use mathlib.Core.List.{List}
 use mathlib.Core.Path.{_≡_, sym, _∙_}
 use Prim.Native.Nat.{ℕ, _+_, _-_, _*_, _≤_, _<_}
 use native.Mathlib.Omega.{arith}
-use lib.ListN.{drop, getD, length, take}
+use lib.ListN.{drop, getD, length}
 use denote.Ref.{now}
 use borrow.Author.Needs.{needs}
+use borrow.Author.Tests.{not-true}
 use borrow.Fn.Kinds.{In}
 use borrow.Fn.PlainCycle.{Measures, is, falls, and}
-use Rattle.segment.specs.Grammar.{Step, isBroken, optionRule, paddingRule, whole}
-use Rattle.segment.specs.Options.{isWrongLength}
+use Rattle.segment.specs.Grammar.{Step, isBroken, optionRule, paddingRule}
+use Rattle.segment.specs.Options.{isRepeated, isWrongLength}
 use Rattle.segment.specs.Internal.{Noted, Outcome}
 use Rattle.segment.specs.declared.rules.Listing.{Listing}
-use Rattle.segment.proofs.ByOctet.{kind-kept, octets-least, octets-most, to-the-end}
-use Rattle.segment.proofs.Outcomes.{at-broken, at-end, at-nop, at-option, at-past, at-repeated, at-whole, at-wrong}
+use Rattle.segment.proofs.ByOctet.{octets-least, octets-most, to-the-end}
+use Rattle.segment.proofs.Gathering.{skipped-within}
+use Rattle.segment.proofs.Outcomes.{at-broken, at-end, at-nop, at-noted, at-option, at-past, at-repeated, at-wrong, unknown-passes}
 use Rattle.segment.proofs.rules.option_rule.Reads as option-rule
 use Rattle.segment.proofs.rules.option_rule.Kinds as option-rule-kinds
 use Rattle.segment.proofs.rules.+option_rule+padding_rule.Lts-option_rule as option-rule-lts
 use Rattle.segment.proofs.rules.padding_rule.Reads as padding-rule
 use Rattle.segment.proofs.rules.padding_rule.Kinds as padding-rule-kinds
 use Rattle.segment.proofs.rules.+option_rule+padding_rule.Lts-padding_rule as padding-rule-lts
-use Rattle.segment.proofs.places.is_repeated.Reads as is-repeated-reads
-use Rattle.segment.proofs.places.with_place.Reads as with-place-reads
+use Rattle.segment.proofs.notes.is_repeated.Reads as is-repeated-reads
+use Rattle.segment.proofs.notes.with_option.Reads as with-option-reads
 use Rattle.segment.proofs.rules.is_broken.Reads as is-broken-reads
+use Rattle.segment.proofs.rules.is_unknown.Reads as is-unknown-reads
 use Rattle.segment.proofs.rules.is_wrong_length.Reads as is-wrong-length-reads
 use Rattle.segment.proofs.rules.+option_rule+padding_rule.{statement}
 use Rattle.segment.proofs.rules.+option_rule+padding_rule.Tie.{close}
@@ -60,14 +63,16 @@ abbrev option-claims : ℕ → option-rule-lts.Claims
 option-claims t = (
   is-broken-reads.Asked,
   is-broken-reads.Learnt,
+  is-unknown-reads.Asked,
+  is-unknown-reads.Learnt,
+  with-option-reads.Asked,
+  with-option-reads.Learnt,
+  padding-rule-below t,
+  padding-rule.Post,
   is-wrong-length-reads.Asked,
   is-wrong-length-reads.Learnt,
   is-repeated-reads.Asked,
   is-repeated-reads.Learnt,
-  with-place-reads.Asked,
-  with-place-reads.Learnt,
-  padding-rule-below t,
-  padding-rule.Post,
 )
 
 abbrev padding-claims : ℕ → padding-rule-lts.Claims
@@ -87,11 +92,22 @@ fits t c =
     let a = c .before .before .before .before .args in
     (octets-least (now (a .header)) (a .at) (unbroken t c), octets-most (now (a .header)) (a .at) (unbroken t c))
 
--- where its length is known to fit its kind
-right-length : (t : ℕ) (c : option-rule-lts.Else2 (option-claims t) (option-rule-at t) option-rule.Post)
+-- where its kind is known to be unknown, so that neither E5 nor E6 is given
+passes : (t : ℕ) (c : option-rule-lts.Then2 (option-claims t) (option-rule-at t) option-rule.Post)
     → let a = c .before .before .before .before .before .before .before .before .args in
+    let kind = getD (now (a .header)) (a .at) 0 in
+    (isWrongLength kind (getD (now (a .header)) (a .at + 1) 0) ≡ false) × ((before : List Step) → isRepeated before kind ≡ false)
+passes t c = unknown-passes _ _ (not-true _ (sym (c .before .is-unknown .ensures) ∙ c .if2 .taken))
+
+-- where its length is known to fit its kind
+right-length : (t : ℕ) (c : option-rule-lts.Else3 (option-claims t) (option-rule-at t) option-rule.Post)
+    → let a = c .before .before .before .before .before .before .before .before .before .before .args in
     isWrongLength (getD (now (a .header)) (a .at) 0) (getD (now (a .header)) (a .at + 1) 0) ≡ false
-right-length t c = sym (c .before .is-wrong-length .ensures) ∙ c .if2 .left
+right-length t c = sym (c .before .is-wrong-length .ensures) ∙ c .if3 .left
+
+-- a header has at most 60 octets
+option-rule-cast-place : (t : ℕ) → option-rule-lts.Need-cast-place (option-claims t) (option-rule-at t) option-rule.Post
+option-rule-cast-place t c = omega (arith, c .before .pre .1)
 
 option-rule-sub-is-broken : (t : ℕ) → option-rule-lts.Need-sub-is-broken (option-claims t) (option-rule-at t) option-rule.Post
 option-rule-sub-is-broken t c = search needs
@@ -124,63 +140,83 @@ option-rule-shared-slice-read-n t c = omega (arith, fits t (c .before .before))
 option-rule-cast-n : (t : ℕ) → option-rule-lts.Need-cast-n (option-claims t) (option-rule-at t) option-rule.Post
 option-rule-cast-n t c = omega (arith, c .shared-slice-known3 .given (c .before .before .before .before .before .before .args .at + 1))
 
-option-rule-is-wrong-length-requires : (t : ℕ) → option-rule-lts.Need-is-wrong-length-requires (option-claims t) (option-rule-at t) option-rule.Post
-option-rule-is-wrong-length-requires t c κs = search needs
+option-rule-add-next : (t : ℕ) → option-rule-lts.Need-add-next (option-claims t) (option-rule-at t) option-rule.Post
+option-rule-add-next t c = omega (arith, fits t (c .before .before), c .before .before .before .before .before .before .pre .1)
+
+option-rule-is-unknown-requires : (t : ℕ) → option-rule-lts.Need-is-unknown-requires (option-claims t) (option-rule-at t) option-rule.Post
+option-rule-is-unknown-requires t c κs = search needs
+
+option-rule-with-option-requires : (t : ℕ) → option-rule-lts.Need-with-option-requires (option-claims t) (option-rule-at t) option-rule.Post
+option-rule-with-option-requires t c κs = search needs
+
+option-rule-padding-rule-requires : (t : ℕ) → option-rule-lts.Need-padding-rule-requires (option-claims t) (option-rule-at t) option-rule.Post
+option-rule-padding-rule-requires t c κs =
+    let a = c .before .before .before .before .before .before .before .before .before .args in
+    let pre = c .before .before .before .before .before .before .before .before .before .pre in
+    let there = fits t (c .before .before .before .before .before) in
+    let fewer = skipped-within (a .prior) (c .with-option .result) _ (a .at) _ (c .with-option .ensures) (pre .1 .1) (there .0) in
+    (omega (arith, there, pre .0), (omega (arith, there), fewer, pre .1 .3))
 
 option-rule-returns-2 : (t : ℕ) → option-rule-lts.Need-returns-2 (option-claims t) (option-rule-at t) option-rule.Post
 option-rule-returns-2 t c = λ before p.
-    let a = c .before .before .before .before .before .before .before .before .args in
-    let wrong = sym (c .before .is-wrong-length .ensures) ∙ c .if2 .taken in
-    at-wrong before (now (a .header)) (a .at) (unbroken t (c .before .before .before .before)) wrong
+    let s = c .before in
+    let a = s .before .before .before .before .before .before .before .before .before .args in
+    let there = unbroken t (s .before .before .before .before .before) in
+    let right = passes t (s .before) in
+    at-noted before (now (a .header)) (a .at) there (right .0) (right .1 before) (s .before .before .before .before .before .before .before .before .before .pre .1 .0) (a .prior) (s .with-option .result) (s .with-option .ensures)
+    (c .padding-rule .result) (c .padding-rule .ensures) p
 
-option-rule-is-repeated-requires : (t : ℕ) → option-rule-lts.Need-is-repeated-requires (option-claims t) (option-rule-at t) option-rule.Post
-option-rule-is-repeated-requires t c κs = search needs
+option-rule-is-wrong-length-requires : (t : ℕ) → option-rule-lts.Need-is-wrong-length-requires (option-claims t) (option-rule-at t) option-rule.Post
+option-rule-is-wrong-length-requires t c κs = search needs
 
 option-rule-returns-3 : (t : ℕ) → option-rule-lts.Need-returns-3 (option-claims t) (option-rule-at t) option-rule.Post
 option-rule-returns-3 t c = λ before p.
     let a = c .before .before .before .before .before .before .before .before .before .before .args in
-    let repeated = sym (c .before .is-repeated .ensures before p) ∙ c .if3 .taken in
-    at-repeated before (now (a .header)) (a .at) (unbroken t (c .before .before .before .before .before .before)) (right-length t (c .before .before)) repeated
+    let wrong = sym (c .before .is-wrong-length .ensures) ∙ c .if3 .taken in
+    at-wrong before (now (a .header)) (a .at) (unbroken t (c .before .before .before .before .before .before)) wrong
 
-option-rule-cast-with-place : (t : ℕ) → option-rule-lts.Need-cast-with-place (option-claims t) (option-rule-at t) option-rule.Post
-option-rule-cast-with-place t c = omega (arith, c .before .before .before .before .before .before .before .before .before .before .pre .1)
+option-rule-is-repeated-requires : (t : ℕ) → option-rule-lts.Need-is-repeated-requires (option-claims t) (option-rule-at t) option-rule.Post
+option-rule-is-repeated-requires t c κs = search needs
 
-option-rule-with-place-requires : (t : ℕ) → option-rule-lts.Need-with-place-requires (option-claims t) (option-rule-at t) option-rule.Post
-option-rule-with-place-requires t c κs = search needs
+option-rule-returns-4 : (t : ℕ) → option-rule-lts.Need-returns-4 (option-claims t) (option-rule-at t) option-rule.Post
+option-rule-returns-4 t c = λ before p.
+    let a = c .before .before .before .before .before .before .before .before .before .before .before .before .args in
+    let repeated = sym (c .before .is-repeated .ensures before p) ∙ c .if4 .taken in
+    at-repeated before (now (a .header)) (a .at) (unbroken t (c .before .before .before .before .before .before .before .before)) (right-length t (c .before .before)) repeated
 
-option-rule-add-next : (t : ℕ) → option-rule-lts.Need-add-next (option-claims t) (option-rule-at t) option-rule.Post
-option-rule-add-next t c = omega (arith, fits t (c .before .before .before .before .before .before .before), c .before .before .before .before .before .before .before .before .before .before .before .pre .1)
+option-rule-with-option-requires-2 : (t : ℕ) → option-rule-lts.Need-with-option-requires-2 (option-claims t) (option-rule-at t) option-rule.Post
+option-rule-with-option-requires-2 t c κs = search needs
 
--- an outcome on the octets after the option, whose place is noted, is one on the option too
-with-option : (t : ℕ) (c : option-rule-lts.After-with-place (option-claims t) (option-rule-at t) option-rule.Post)
-    → let a = c .before .before .before .before .before .before .before .before .before .before .before .args in
+-- an outcome on the octets after an option of a known kind, whose place is noted, is one on the option too
+with-option : (t : ℕ) (c : option-rule-lts.After-with-option2 (option-claims t) (option-rule-at t) option-rule.Post)
+    → let a = c .before .before .before .before .before .before .before .before .before .before .before .before .before .args in
     let header = now (a .header) in
     let next = a .at + getD header (a .at + 1) 0 in
-    (r : Listing) → ((before : List Step) → Noted before (c .with-place .result) → Outcome before (paddingRule next (drop next header)) r)
+    (r : Listing) → ((before : List Step) → Noted before (c .with-option2 .result) → Outcome before (paddingRule next (drop next header)) r)
     → (before : List Step) → Noted before (a .prior) → Outcome before (optionRule (a .at) (drop (a .at) header)) r
 with-option t c r after before p =
     let s = c .before in
-    let a = s .before .before .before .before .before .before .before .before .before .before .args in
-    let header = now (a .header) in
-    let octets = take (getD header (a .at + 1) 0) (drop (a .at) header) in
-    let there = unbroken t (s .before .before .before .before .before .before) in
-    let new = sym (s .before .is-repeated .ensures before p) ∙ s .if3 .left in
-    let noted = c .with-place .ensures before octets p (kind-kept header (a .at) there) new in
-    at-whole before header (a .at) there (right-length t (s .before .before)) new r (after (before ++ (whole (a .at) octets ∷ [])) noted)
-
-option-rule-returns-4 : (t : ℕ) → option-rule-lts.Need-returns-4 (option-claims t) (option-rule-at t) option-rule.Post
-option-rule-returns-4 t c =
-    let places = c .before .with-place .result in
-    with-option t (c .before) (Listing.Listed places) λ before p. at-past before _ _ (c .if4 .taken) places p
-
-option-rule-padding-rule-requires : (t : ℕ) → option-rule-lts.Need-padding-rule-requires (option-claims t) (option-rule-at t) option-rule.Post
-option-rule-padding-rule-requires t c κs =
-    let pre = c .before .before .before .before .before .before .before .before .before .before .before .before .pre in
-    let there = fits t (c .before .before .before .before .before .before .before .before) in
-    (omega (arith, there, pre .0), (omega (arith, there), pre .1 .2))
+    let a = s .before .before .before .before .before .before .before .before .before .before .before .before .args in
+    let there = unbroken t (s .before .before .before .before .before .before .before .before) in
+    let new = sym (s .before .is-repeated .ensures before p) ∙ s .if4 .left in
+    at-noted before (now (a .header)) (a .at) there (right-length t (s .before .before)) new (s .before .before .before .before .before .before .before .before .before .before .before .before .pre .1 .0) (a .prior) (c .with-option2 .result)
+    (c .with-option2 .ensures) r after p
 
 option-rule-returns-5 : (t : ℕ) → option-rule-lts.Need-returns-5 (option-claims t) (option-rule-at t) option-rule.Post
-option-rule-returns-5 t c = with-option t (c .before .before) (c .padding-rule .result) (c .padding-rule .ensures)
+option-rule-returns-5 t c =
+    let notes = c .before .with-option2 .result in
+    with-option t (c .before) (Listing.Listed notes) λ before p. at-past before _ _ (c .if5 .taken) notes p
+
+option-rule-padding-rule-requires-2 : (t : ℕ) → option-rule-lts.Need-padding-rule-requires-2 (option-claims t) (option-rule-at t) option-rule.Post
+option-rule-padding-rule-requires-2 t c κs =
+    let a = c .before .before .before .before .before .before .before .before .before .before .before .before .before .before .args in
+    let pre = c .before .before .before .before .before .before .before .before .before .before .before .before .before .before .pre in
+    let there = fits t (c .before .before .before .before .before .before .before .before .before .before) in
+    let fewer = skipped-within (a .prior) (c .before .with-option2 .result) _ (a .at) _ (c .before .with-option2 .ensures) (pre .1 .1) (there .0) in
+    (omega (arith, there, pre .0), (omega (arith, there), fewer, pre .1 .3))
+
+option-rule-returns-6 : (t : ℕ) → option-rule-lts.Need-returns-6 (option-claims t) (option-rule-at t) option-rule.Post
+option-rule-returns-6 t c = with-option t (c .before .before) (c .padding-rule2 .result) (c .padding-rule2 .ensures)
 
 abbrev padding-rule-Inv-loop : padding-rule-lts.InvT-loop
 padding-rule-Inv-loop header from prior at₀ at =
@@ -207,7 +243,7 @@ padding-rule-option-rule-requires t c κs =
     let pre = c .before .before .before .before .before .before .pre in
     let l = c .before .before .before .before .loop in
     let within = c .before .before .before .loop-test .taken in
-    (omega (arith, pre .0, l .inv .0, within), (omega (arith, pre .1, l .inv .0), within, pre .1 .1))
+    (omega (arith, pre .0, l .inv .0, within), (omega (arith, pre .1, l .inv .0), omega (arith, pre .1 .1, l .inv .0), within, pre .1 .2))
 
 padding-rule-returns-2 : (t : ℕ) → padding-rule-lts.Need-returns-2 (padding-claims t) (padding-rule-at t) padding-rule.Post padding-rule-Inv-loop padding-rule-μ-loop
 padding-rule-returns-2 t c = λ before p.
@@ -239,6 +275,7 @@ pub +option-rule+padding-rule-spec : {M : Type 1} → statement M
 +option-rule+padding-rule-spec = close μ-option-rule μ-padding-rule (λ t. option-rule-lts.spec (option-claims t)
     (option-rule-at t)
     option-rule.Post
+    (option-rule-cast-place t)
     (option-rule-sub-is-broken t)
     (option-rule-part-is-broken-start t)
     (option-rule-part-is-broken-end t)
@@ -248,16 +285,19 @@ pub +option-rule+padding-rule-spec : {M : Type 1} → statement M
     (option-rule-add-n t)
     (option-rule-shared-slice-read-n t)
     (option-rule-cast-n t)
-    (option-rule-is-wrong-length-requires t)
-    (option-rule-returns-2 t)
-    (option-rule-is-repeated-requires t)
-    (option-rule-returns-3 t)
-    (option-rule-cast-with-place t)
-    (option-rule-with-place-requires t)
     (option-rule-add-next t)
-    (option-rule-returns-4 t)
+    (option-rule-is-unknown-requires t)
+    (option-rule-with-option-requires t)
     (option-rule-padding-rule-requires t)
-    (option-rule-returns-5 t))
+    (option-rule-returns-2 t)
+    (option-rule-is-wrong-length-requires t)
+    (option-rule-returns-3 t)
+    (option-rule-is-repeated-requires t)
+    (option-rule-returns-4 t)
+    (option-rule-with-option-requires-2 t)
+    (option-rule-returns-5 t)
+    (option-rule-padding-rule-requires-2 t)
+    (option-rule-returns-6 t))
     λ t. padding-rule-lts.spec
     (padding-claims t)
     (padding-rule-at t)

@@ -5,7 +5,7 @@ use mathlib.Core.Path.{ap, _∙_}
 use lib.Dec.{eqb}
 use borrow.Author.Needs.{needs}
 use Rattle.segment.specs.Options.{optionOf, optionsOf}
-use Rattle.segment.specs.declared.places.Places.{Places}
+use Rattle.segment.specs.declared.notes.Notes.{Notes}
 use Rattle.segment.proofs.Standing.{noted-found}
 use Rattle.segment.proofs.values.options.Statement.{statement}
 use Rattle.segment.proofs.values.options.Tie as tie
@@ -25,12 +25,12 @@ timestamps-requires c κs = search needs
 returns : tie.Need-returns
 unfolding optionsOf
 returns c = λ steps p all.
-    let places = p .are in
-    let mss = c .before .before .before .before .mss .ensures (optionOf 2 steps) (ap (λ (x : Places). x .mss) places) (all .mss) in
-    let scale = c .before .before .before .scale .ensures (optionOf 3 steps) (ap (λ (x : Places). x .scale) places) (all .scale) in
-    let permitted = ap (λ (x : Places). not (eqb (x .permitted) 0)) places ∙ noted-found (optionOf 4 steps) (p .past-start (4 ∷ [])) in
-    let blocks = c .before .before .sack-blocks .ensures (optionOf 5 steps) (ap (λ (x : Places). x .sack) places) (all .sack) in
-    let timestamps = c .before .timestamps .ensures (optionOf 8 steps) (ap (λ (x : Places). x .timestamps) places) (all .timestamps) in
+    let notes = p .are in
+    let mss = c .before .before .before .before .mss .ensures (optionOf 2 steps) (ap (λ (x : Notes). x .mss) notes) (all .mss) in
+    let scale = c .before .before .before .scale .ensures (optionOf 3 steps) (ap (λ (x : Notes). x .scale) notes) (all .scale) in
+    let permitted = ap (λ (x : Notes). not (eqb (x .permitted) 0)) notes ∙ noted-found (optionOf 4 steps) (p .past-start (4 ∷ [])) in
+    let blocks = c .before .before .sack-blocks .ensures (optionOf 5 steps) (ap (λ (x : Notes). x .sack) notes) (all .sack) in
+    let timestamps = c .before .timestamps .ensures (optionOf 8 steps) (ap (λ (x : Notes). x .timestamps) notes) (all .timestamps) in
     λ i. record { mss = mss i; scale = scale i; permitted = permitted i; blocks = blocks i; timestamps = timestamps i }
 
 pub options-spec : {M : Type 1} → statement M

@@ -2,8 +2,8 @@
 use mathlib.Core.Path.{refl}
 use Rattle.segment.specs.Options.{optionIn}
 use Rattle.segment.proofs.Inside.{none-found}
-use Rattle.segment.proofs.places.none.Statement.{statement}
-use Rattle.segment.proofs.places.none.Tie as tie
+use Rattle.segment.proofs.notes.none.Statement.{statement}
+use Rattle.segment.proofs.notes.none.Tie as tie
 
 returns : tie.Need-returns
 unfolding optionIn

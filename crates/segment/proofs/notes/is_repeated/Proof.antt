@@ -8,13 +8,13 @@ use borrow.Author.Tests.{ne-eqb}
 use Rattle.segment.specs.Grammar.{Step}
 use Rattle.segment.specs.Options.{isFound, isKnown, isRepeated, optionOf, standsIn}
 use Rattle.segment.specs.Internal.{Noted, placeOf}
-use Rattle.segment.specs.declared.places.Places.{Places}
+use Rattle.segment.specs.declared.notes.Notes.{Notes}
 use Rattle.segment.proofs.Standing.{noted-found}
-use Rattle.segment.proofs.places.is_repeated.Statement.{statement}
-use Rattle.segment.proofs.places.is_repeated.Tie as tie
+use Rattle.segment.proofs.notes.is_repeated.Statement.{statement}
+use Rattle.segment.proofs.notes.is_repeated.Tie as tie
 
 -- whether a known kind has a place says whether it repeats
-noted-repeated : (k : ℕ) → isKnown k ≡ true → (before : List Step) {places : Places} → Noted before places → not (eqb (placeOf (optionOf k before)) 0) ≡ isRepeated before k
+noted-repeated : (k : ℕ) → isKnown k ≡ true → (before : List Step) {notes : Notes} → Noted before notes → not (eqb (placeOf (optionOf k before)) 0) ≡ isRepeated before k
 unfolding isRepeated
 noted-repeated k known before p = noted-found (optionOf k before) (p .past-start (k ∷ [])) ∙ ap (λ (t : Bool). t && isFound (optionOf k before)) (sym known)
 
