@@ -19,6 +19,7 @@ abbrev pub placeOf : Found → ℕ
 placeOf nothing = 0
 placeOf (found place octets) = place
 
+-- the place of each known option, and how many others there are
 abbrev pub notesOf : List Step → Notes
 notesOf steps = record {
   mss = placeOf (optionOf 2 steps);

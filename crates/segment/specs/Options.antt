@@ -1,4 +1,5 @@
--- What the options say, and which are refused (document 01, "Reading a segment" and "Numbers given when work is declined").
+-- What the options say, and which are refused (document 01, "Reading a segment" and "Numbers given when work is declined"); where the first
+-- fault stands, and how many options are skipped (document 02, P6).
 use Prim.Native.Nat.{ℕ, zero, suc, _+_, _-_, _/_}
 use mathlib.Core.Bool.{Bool, true, false, cond, not, _&&_, _||_}
 use mathlib.Core.List.{List, [], _∷_, _++_, map}
