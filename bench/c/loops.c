@@ -48,7 +48,7 @@ static inline uint64_t field_sum(const struct reader_segment *read)
     for (size_t i = 0; i < read->block_count; i++) {
         sum += (uint64_t)read->blocks[i].left + read->blocks[i].right;
     }
-    return sum + read->skipped + read->payload_start + read->payload_length;
+    return sum + read->skipped + read->steps + read->payload_start + read->payload_length;
 }
 
 static uint64_t c_fields(const struct loops_set *set)
@@ -57,7 +57,7 @@ static uint64_t c_fields(const struct loops_set *set)
     for (size_t i = 0; i < set->count; i++) {
         struct reader_segment read;
         uint32_t number = reader_read(segment(set, i), set->length, &read);
-        sum += number != 0 ? number + read.place : field_sum(&read);
+        sum += number != 0 ? number + read.place + read.steps : field_sum(&read);
     }
     return sum;
 }

@@ -149,7 +149,7 @@ static inline void clear_options(struct reader_segment *read)
     read->scale = 0;
     read->tsval = read->tsecr = 0;
     read->block_count = 0;
-    read->skipped = 0;
+    read->skipped = read->steps = 0;
 }
 
 uint32_t reader_read(const uint8_t *segment, size_t length, struct reader_segment *read)
@@ -157,12 +157,16 @@ uint32_t reader_read(const uint8_t *segment, size_t length, struct reader_segmen
     size_t header;
     uint32_t number = header_refusal(segment, length, &header);
     if (number != 0) {
-        read->place = 0;
+        read->place = read->steps = 0;
         return number;
     }
     clear_options(read);
     uint32_t seen = 0;
-    for (size_t at = LEAST_HEADER; at < header && segment[at] != END;) {
+    for (size_t at = LEAST_HEADER; at < header;) {
+        read->steps++;
+        if (segment[at] == END) {
+            break;
+        }
         if (segment[at] == NOP) {
             at++;
             continue;

@@ -24,6 +24,7 @@ struct reader_segment {
     uint8_t scale;
     uint8_t skipped; /* how many unknown options */
     uint8_t place; /* of the option at fault, 0 where there is none */
+    uint8_t steps; /* NOPs, an end of list and options, up to the one at fault */
     uint32_t tsval, tsecr;
     size_t block_count;
     struct reader_block blocks[READER_MOST_BLOCKS];
@@ -33,7 +34,7 @@ struct reader_segment {
 /* The number of the segment's refusal, 0 to 6: 0 where it can be read. */
 uint32_t reader_refusal(const uint8_t *segment, size_t length);
 
-/* The same number; at 0 `read` has every field but the place, else the place alone is to be used. */
+/* The same number; at 0 `read` has every field but the place, else the place and the steps alone are to be used. */
 uint32_t reader_read(const uint8_t *segment, size_t length, struct reader_segment *read);
 
 #endif

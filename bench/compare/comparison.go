@@ -36,12 +36,12 @@ func compare(peer string, ours, theirs []string, segments [][]byte, classes []cl
 	return c
 }
 
-// withoutPlaces leaves out the places of options at fault, which gopacket and scapy do not give.
-func withoutPlaces(lines []string) []string {
+// numbersAlone leaves of a refusal its number: gopacket and scapy give neither the place of the option at fault nor the steps up to it.
+func numbersAlone(lines []string) []string {
 	cut := append([]string{}, lines...)
 	for i, line := range lines {
 		if !isReadable(line) {
-			cut[i] = line[:strings.LastIndex(line, " ")]
+			cut[i] = strings.Join(strings.Fields(line)[:2], " ")
 		}
 	}
 	return cut

@@ -51,6 +51,7 @@ func fieldsOfLayer(tcp layers.TCP) segment.Fields {
 		Urgent:        tcp.Urgent,
 		PayloadStart:  len(tcp.Contents),
 		PayloadLength: len(tcp.Payload),
+		Steps:         len(tcp.Options), // NOPs and the end of the list are among them
 	}
 	for _, option := range tcp.Options {
 		addOption(&fields, option)

@@ -20,11 +20,11 @@ func main() {
 
 	segments := randomSegments(rand.New(rand.NewSource(*seed)), *count)
 	ours := readByLibrary(*replay, segments)
-	unplaced := withoutPlaces(ours)
+	plain := numbersAlone(ours)
 	all := []comparison{
 		compare("C reader", ours, readByC(segments), segments, nil),
-		compare("gopacket", unplaced, readByGoPacket(segments), segments, gopacketClasses),
-		compare("scapy", unplaced[:*slow], readByScapy(*script, segments[:*slow]), segments[:*slow], scapyClasses),
+		compare("gopacket", plain, readByGoPacket(segments), segments, gopacketClasses),
+		compare("scapy", plain[:*slow], readByScapy(*script, segments[:*slow]), segments[:*slow], scapyClasses),
 	}
 	printCounts(*seed, all)
 	printDifferences(all)

@@ -48,7 +48,7 @@ func readByC(segments [][]byte) []string {
 		if refusal := readers.Refusal(octets); refusal != number {
 			fail.Now("the C reader's numbers are %d and %d: %x", number, refusal, octets)
 		}
-		lines[i] = segment.PlacedLine(number, place)
+		lines[i] = segment.PlacedLine(number, place, fields.Steps)
 		if number == 0 {
 			lines[i] = fields.Line()
 		}

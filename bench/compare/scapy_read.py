@@ -46,7 +46,8 @@ def line(octets: bytes) -> str:
     header = [tcp.sport, tcp.dport, tcp.seq, tcp.ack, flags, tcp.window, tcp.urgptr]
     start = 4 * (tcp.dataofs or 0)
     skipped = sum(name not in KNOWN for name, _ in tcp.options)
-    last = [start, len(tcp.payload), skipped]
+    steps = len(tcp.options)  # NOPs and the end of the list are among them
+    last = [start, len(tcp.payload), skipped, steps]
     fields = [str(field) for field in header] + option_words(dict(tcp.options)) + [str(field) for field in last]
     return " ".join(["read", "0"] + fields)
 

@@ -16,10 +16,11 @@ func Refusal(octets []byte) int {
 	return int(C.reader_refusal(first(octets), C.size_t(len(octets))))
 }
 
-// Fields is the C reader's number for a segment, all that it reads at 0, and the place of an option at fault.
+// Fields is the C reader's number for a segment, all that it reads at 0, else the steps alone, and the place of an option at fault.
 func Fields(octets []byte) (number int, read segment.Fields, place int) {
 	var inC C.struct_reader_segment
 	number = int(C.reader_read(first(octets), C.size_t(len(octets)), &inC))
+	read.Steps = int(inC.steps)
 	if number == 0 {
 		read = fields(inC)
 	}
@@ -43,6 +44,7 @@ func fields(read C.struct_reader_segment) segment.Fields {
 		Urgent:        uint16(read.urgent),
 		SACKPermitted: bool(read.sack_permitted),
 		Skipped:       int(read.skipped),
+		Steps:         int(read.steps),
 		PayloadStart:  int(read.payload_start),
 		PayloadLength: int(read.payload_length),
 	}

@@ -18,6 +18,7 @@ type Fields struct {
 	Blocks                      []Block
 	PayloadStart, PayloadLength int
 	Skipped                     int // unknown options
+	Steps                       int // NOPs, an end of list and options
 }
 
 // SetMSS notes that there is an MSS.
@@ -36,7 +37,7 @@ func (f Fields) Line() string {
 	for _, block := range f.Blocks {
 		words = append(words, fmt.Sprint(block.Left), fmt.Sprint(block.Right))
 	}
-	words = append(words, fmt.Sprint(f.PayloadStart), fmt.Sprint(f.PayloadLength), fmt.Sprint(f.Skipped))
+	words = append(words, fmt.Sprint(f.PayloadStart), fmt.Sprint(f.PayloadLength), fmt.Sprint(f.Skipped), fmt.Sprint(f.Steps))
 	return strings.Join(words, " ")
 }
 
@@ -61,15 +62,15 @@ func (f Fields) optionWords() string {
 	return strings.Join([]string{mss, scale, permitted, stamps}, " ")
 }
 
-// RefusalLine writes a refusal's number as the replay program does, but for the place.
+// RefusalLine writes a refusal's number as the replay program does, but for the place and the steps.
 func RefusalLine(number int) string {
 	return fmt.Sprintf("read %d", number)
 }
 
-// PlacedLine also has the place of the option at fault, 0 where there is none.
-func PlacedLine(number, place int) string {
+// PlacedLine also has the place of the option at fault, 0 where there is none, and the steps up to it.
+func PlacedLine(number, place, steps int) string {
 	if place == 0 {
-		return RefusalLine(number) + " -"
+		return fmt.Sprintf("%s - %d", RefusalLine(number), steps)
 	}
-	return fmt.Sprintf("%s %d", RefusalLine(number), place)
+	return fmt.Sprintf("%s %d %d", RefusalLine(number), place, steps)
 }

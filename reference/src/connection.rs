@@ -70,7 +70,7 @@ impl Connection {
         if !opening.is_allowed() {
             return Err(Refusal::OwnOffer);
         }
-        let syn = Segment::read(octets)?;
+        let syn = Segment::read(octets).result?;
         if !syn.flags.syn() || syn.flags.rst() {
             return Err(Refusal::NotAnOpeningSyn);
         }
@@ -110,7 +110,7 @@ impl Connection {
 
     /// Judges an arriving segment and, where it is taken, changes the record by it.
     pub fn arrive<'a>(&mut self, clock: u64, octets: &'a [u8]) -> Result<Judged<'a>, Refusal> {
-        let segment = Segment::read(octets)?;
+        let segment = Segment::read(octets).result?;
         self.check_clock(clock)?;
         let skipped = segment.options.skipped;
         // Each answer is built in its place, so that a take is not copied.

@@ -1,7 +1,7 @@
 //! Counts how often each call of a script gave each number, with the least and the most of the places of faulty
-//! options, or of the counts of skipped ones, that came with it.
+//! options, or of the counts of skipped ones, that came with it, and with the numbers of steps.
 
-use std::collections::BTreeMap;
+use std::collections::{BTreeMap, BTreeSet};
 use std::fmt::{self, Display};
 
 use crate::play::{Player, BAD_LINE};
@@ -24,8 +24,8 @@ const POSSIBLE: [(&str, &[u8]); 8] = [
     ("refusal", &[0, 1, 2, 3, 4, 5, 6]),
 ];
 
-/// The calls whose line ends in the place of an option at fault or a count of skipped options.
-const PLACED: [&str; 3] = ["read", "open", "arrive"];
+/// The calls whose line has the place of an option at fault or a count of skipped options, and the fields behind it.
+const PLACED: [(&str, usize); 3] = [("read", 1), ("open", 0), ("arrive", 0)];
 
 /// What a call answered, as far as it is counted.
 #[derive(Clone, Copy, Debug, PartialEq, Eq, PartialOrd, Ord)]
@@ -46,16 +46,18 @@ impl Display for Outcome {
     }
 }
 
-/// How often an outcome was given, and the least and the most that the lines' last field `where` held.
-#[derive(Clone, Copy, Default)]
+/// How often an outcome was given, the least and the most that the lines' field `where` held, and all numbers of steps.
+#[derive(Default)]
 struct Tally {
     count: u64,
     span: Option<(u8, u8)>,
+    steps: BTreeSet<u8>,
 }
 
 impl Tally {
-    fn note(&mut self, place_or_count: Option<u8>) {
+    fn note(&mut self, place_or_count: Option<u8>, steps: Option<u8>) {
         self.count += 1;
+        self.steps.extend(steps);
         if let Some(value) = place_or_count {
             let (least, most) = self.span.unwrap_or((value, value));
             self.span = Some((least.min(value), most.max(value)));
@@ -81,9 +83,12 @@ impl Counts {
                     lines.clear();
                     player.play(&call, &mut lines);
                     let tally = counts.tally(name(&call), outcome(&call, &lines));
-                    tally.note(place_or_count(&call, &lines));
+                    tally.note(place_or_count(&call, &lines), steps(&call, &lines));
                 }
-                Err(_) => counts.tally(BAD_LINE.trim_end(), Outcome::Plain).note(None),
+                Err(_) => {
+                    let tally = counts.tally(BAD_LINE.trim_end(), Outcome::Plain);
+                    tally.note(None, None);
+                }
             }
         }
         counts
@@ -97,6 +102,12 @@ impl Counts {
     pub fn span(&self, name: &'static str, number: u8) -> Option<(u8, u8)> {
         let tally = self.counts.get(&(name, Outcome::Number(number)));
         tally.and_then(|tally| tally.span)
+    }
+
+    /// The numbers of steps, ascending, with which reading gave a number.
+    pub fn steps(&self, number: u8) -> impl Iterator<Item = u8> + '_ {
+        let tally = self.counts.get(&("read", Outcome::Number(number)));
+        tally.into_iter().flat_map(|tally| &tally.steps).copied()
     }
 
     /// The calls with the numbers that they can give but did not.
@@ -114,19 +125,18 @@ impl Display for Counts {
     fn fmt(&self, f: &mut fmt::Formatter) -> fmt::Result {
         writeln!(
             f,
-            "{:<16} {:>6} {:>9} {:>6}",
-            "call", "number", "count", "where"
+            "{:<16} {:>6} {:>9} {:>6} {:>6}",
+            "call", "number", "count", "where", "steps"
         )?;
         for (&(name, outcome), tally) in &self.counts {
-            let span = match tally.span {
-                Some((least, most)) => format!("{}-{}", least, most),
-                None => "-".to_owned(),
-            };
-            let outcome = outcome.to_string();
             writeln!(
                 f,
-                "{:<16} {:>6} {:>9} {:>6}",
-                name, outcome, tally.count, span
+                "{:<16} {:>6} {:>9} {:>6} {:>6}",
+                name,
+                outcome.to_string(),
+                tally.count,
+                joined(tally.span),
+                joined(runs(&tally.steps)),
             )?;
         }
         let missing = self.never_reached();
@@ -137,6 +147,30 @@ impl Display for Counts {
             .iter()
             .try_for_each(|(name, number)| writeln!(f, "never reached: {} {}", name, number))
     }
+}
+
+/// Numbers that follow one another, as the least and the most of each run.
+fn runs(numbers: &BTreeSet<u8>) -> Vec<(u8, u8)> {
+    let mut runs: Vec<(u8, u8)> = Vec::new();
+    for &number in numbers {
+        match runs.last_mut() {
+            Some((_, most)) if *most + 1 == number => *most = number,
+            _ => runs.push((number, number)),
+        }
+    }
+    runs
+}
+
+/// Spans as the table has them, `-` where there are none.
+fn joined(spans: impl IntoIterator<Item = (u8, u8)>) -> String {
+    let words: Vec<String> = spans
+        .into_iter()
+        .map(|(least, most)| format!("{}-{}", least, most))
+        .collect();
+    if words.is_empty() {
+        return "-".to_owned();
+    }
+    words.join(",")
 }
 
 /// The name of a call in the table; the two distances have names of their own.
@@ -172,13 +206,24 @@ fn outcome(call: &Call, lines: &str) -> Outcome {
     }
 }
 
-/// The last field of the first line, for the calls that end it in one.
+/// The field `where` of the first line, for the calls that have one.
 fn place_or_count(call: &Call, lines: &str) -> Option<u8> {
-    if !PLACED.contains(&name(call)) {
-        return None;
+    let &(_, behind) = PLACED.iter().find(|&&(placed, _)| placed == name(call))?;
+    field_from_end(lines, behind)
+}
+
+/// The number of steps, which ends the line of a reading.
+fn steps(call: &Call, lines: &str) -> Option<u8> {
+    match call {
+        Call::Read { .. } => field_from_end(lines, 0),
+        _ => None,
     }
+}
+
+/// A field of the first line, with so many behind it.
+fn field_from_end(lines: &str, behind: usize) -> Option<u8> {
     let first = lines.lines().next()?;
-    first.rsplit(' ').next()?.parse().ok()
+    first.rsplit(' ').nth(behind)?.parse().ok()
 }
 
 #[cfg(test)]
@@ -200,16 +245,16 @@ mod tests {
             .lines()
             .map(|line| line.split_whitespace().collect())
             .collect();
-        assert_eq!(rows[1], ["bad", "-", "1", "-"]);
-        assert_eq!(rows[2], ["distance", "-", "1", "-"]);
-        assert_eq!(rows[3], ["sample", "0", "2", "-"]);
-        assert_eq!(rows[4], ["sent", "closed", "1", "-"]);
+        assert_eq!(rows[1], ["bad", "-", "1", "-", "-"]);
+        assert_eq!(rows[2], ["distance", "-", "1", "-", "-"]);
+        assert_eq!(rows[3], ["sample", "0", "2", "-", "-"]);
+        assert_eq!(rows[4], ["sent", "closed", "1", "-", "-"]);
         assert!(table.contains("never reached: sample 14\n"));
         assert!(!table.contains("never reached: sample 0\n"));
     }
 
     #[test]
-    fn places_and_counts_span_from_the_least_to_the_most() {
+    fn places_and_counts_span_from_the_least_to_the_most_and_steps_are_all_there() {
         let mut script = Vec::new();
         let lists: [&[u8]; 5] = [
             &[254, 2, 254, 2],
@@ -228,6 +273,10 @@ mod tests {
         assert_eq!(counts.span("read", 4), Some((21, 22)));
         assert_eq!(counts.span("read", 1), None);
         assert_eq!(counts.span("open", 0), None);
-        assert!(counts.to_string().contains(" 0-2\n"));
+        // Kind 0 fills up the options: 254, 254; 254, kind 0; none.
+        assert!(counts.steps(0).eq([0, 2]));
+        assert!(counts.steps(4).eq([2, 3]));
+        assert!(counts.steps(1).eq([0]));
+        assert!(counts.to_string().contains(" 0-2 0-0,2-2\n"));
     }
 }

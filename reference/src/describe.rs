@@ -108,7 +108,7 @@ struct SegmentWords<'a>(&'a [u8]);
 
 impl Display for SegmentWords<'_> {
     fn fmt(&self, f: &mut fmt::Formatter) -> fmt::Result {
-        let segment = match Segment::read(self.0) {
+        let segment = match Segment::read(self.0).result {
             Ok(segment) => segment,
             Err(refusal) => return write_refusal(f, refusal),
         };

@@ -32,12 +32,29 @@ pub struct Options<'a> {
     pub skipped: u8,
 }
 
+/// The answer of reading, refused or not, with the number of steps that the options took.
+#[derive(Clone, Copy, Debug, PartialEq, Eq)]
+pub struct Reading<T> {
+    pub result: Result<T, Refusal>,
+    pub steps: u8,
+}
+
 impl<'a> Options<'a> {
-    /// Reads the options of a whole header from left to right; the first faulty one decides.
+    /// Reads the options of a whole header.
     #[inline(always)]
-    pub fn read(header: &'a [u8]) -> Result<Options<'a>, Refusal> {
+    pub fn read(header: &'a [u8]) -> Reading<Options<'a>> {
+        let mut walk = Walk::new(header);
+        Reading {
+            result: Options::note_all(&mut walk),
+            steps: walk.steps,
+        }
+    }
+
+    /// Notes the options from left to right; the first faulty one decides, and is the last that is walked to.
+    #[inline(always)]
+    fn note_all(walk: &mut Walk<'a>) -> Result<Options<'a>, Refusal> {
         let mut options = Options::default();
-        for option in Walk::new(header) {
+        for option in walk {
             let PlacedOption { place, octets } = option?;
             options.note(octets).map_err(|fault| fault(place))?;
         }
@@ -109,6 +126,8 @@ pub struct Walk<'a> {
     /// Where the header ends.
     end: usize,
     rest: &'a [u8],
+    /// One for each NOP, kind 0 and option that was met, a faulty one included.
+    steps: u8,
 }
 
 impl<'a> Walk<'a> {
@@ -117,6 +136,7 @@ impl<'a> Walk<'a> {
         Walk {
             end: header.len(),
             rest: &header[HEADER_LENGTH..],
+            steps: 0,
         }
     }
 
@@ -132,10 +152,19 @@ impl<'a> Iterator for Walk<'a> {
     fn next(&mut self) -> Option<Self::Item> {
         while let [NOP, rest @ ..] = self.rest {
             self.rest = rest;
+            self.steps += 1;
         }
+        // The header's end is no step.
+        if self.rest.is_empty() {
+            return None;
+        }
+        self.steps += 1;
         let place = self.place();
         match *self.rest {
-            [] | [END, ..] => None,
+            [END, ..] => {
+                self.rest = &[];
+                None
+            }
             [_, length, ..] if length >= 2 && usize::from(length) <= self.rest.len() => {
                 let (octets, rest) = self.rest.split_at(usize::from(length));
                 self.rest = rest;
@@ -158,11 +187,15 @@ mod tests {
     }
 
     fn refusal(list: &[u8]) -> Option<Refusal> {
-        Options::read(&header(list)).err()
+        Options::read(&header(list)).result.err()
     }
 
     fn skipped(list: &[u8]) -> u8 {
-        Options::read(&header(list)).unwrap().skipped
+        Options::read(&header(list)).result.unwrap().skipped
+    }
+
+    fn steps(list: &[u8]) -> u8 {
+        Options::read(&header(list)).steps
     }
 
     fn bounds(place: u8) -> Option<Refusal> {
@@ -256,9 +289,36 @@ mod tests {
     }
 
     #[test]
+    fn nops_options_and_kind_0_are_steps_and_the_end_of_the_header_is_none() {
+        assert_eq!(steps(&[]), 0);
+        assert_eq!(steps(&[1; 40]), 40);
+        assert_eq!(steps(&[99, 2].repeat(20)), 20);
+        assert_eq!(steps(&[1, 99, 3, 1, 2, 4, 1, 1]), 3);
+        assert_eq!(steps(&[4, 2, 1, 0]), 3);
+    }
+
+    #[test]
+    fn nothing_behind_kind_0_is_a_step() {
+        assert_eq!(steps(&[0, 1, 99, 2]), 1);
+        assert_eq!(steps(&[1, 0, 0, 0]), 2);
+        assert_eq!(steps(&[99, 2, 0, 99]), 2);
+    }
+
+    #[test]
+    fn a_faulty_option_is_the_last_step() {
+        assert_eq!(steps(&[1, 1, 1, 99]), 4);
+        assert_eq!(steps(&[99, 0, 1, 1]), 1);
+        assert_eq!(steps(&[99, 2, 1, 99, 3, 0, 8, 9]), 4);
+        assert_eq!(steps(&[1, 4, 3, 1, 99, 0, 0, 0]), 2);
+        assert_eq!(steps(&[4, 2, 1, 4, 2, 1, 4, 2]), 3);
+        assert_eq!(steps(&[&[1; 39][..], &[99]].concat()), 40);
+        assert_eq!(steps(&[&[99, 2].repeat(19)[..], &[99, 3]].concat()), 20);
+    }
+
+    #[test]
     fn sack_blocks_are_read_in_order() {
         let header = header(&[5, 18, 0, 0, 0, 1, 0, 0, 0, 2, 0, 0, 0, 3, 0, 0, 0, 4, 0, 0]);
-        let blocks = Options::read(&header).unwrap().sack;
+        let blocks = Options::read(&header).result.unwrap().sack;
         let edges: Vec<_> = blocks.iter().map(|b| (b.left.0, b.right.0)).collect();
         assert_eq!(edges, [(1, 2), (3, 4)]);
     }

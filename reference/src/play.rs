@@ -3,6 +3,7 @@
 use std::fmt::{self, Display, Write};
 
 use crate::connection::Connection;
+use crate::options::Reading;
 use crate::ranges::Range;
 use crate::refusal::Refusal;
 use crate::script::{Call, Calls};
@@ -151,13 +152,13 @@ fn number<T>(result: &Result<T, Refusal>) -> u8 {
 }
 
 fn write_read(octets: &[u8], out: &mut String) -> fmt::Result {
-    let read = Segment::read(octets);
-    write!(out, "read {}", number(&read))?;
-    if let Ok(segment) = &read {
+    let Reading { result, steps } = Segment::read(octets);
+    write!(out, "read {}", number(&result))?;
+    if let Ok(segment) = &result {
         write!(out, " {}", SegmentFields(segment))?;
     }
-    let place_or_count = Where(read.map(|segment| segment.options.skipped));
-    writeln!(out, " {}", place_or_count)
+    let place_or_count = Where(result.map(|segment| segment.options.skipped));
+    writeln!(out, " {} {}", place_or_count, steps)
 }
 
 fn write_arrive(arrived: Result<Judged, Refusal>, out: &mut String) -> fmt::Result {
@@ -178,7 +179,7 @@ fn write_arrive(arrived: Result<Judged, Refusal>, out: &mut String) -> fmt::Resu
     )
 }
 
-/// The last field of a line about a segment: how many unknown options were skipped, the place of the option at fault,
+/// The field that every line about a segment has: how many unknown options were skipped, the place of the option at fault,
 /// or `-` for a refusal that has none.
 struct Where(Result<u8, Refusal>);
 
@@ -359,7 +360,7 @@ mod tests {
         segment[12] = 0x5f;
         segment[13] = 0x10;
         let line = play_calls(&[Call::Read { segment: &segment }]);
-        assert_eq!(line, "read 0 0 0 0 0 16 0 0 - - 0 - - 0 20 1 0\n");
+        assert_eq!(line, "read 0 0 0 0 0 16 0 0 - - 0 - - 0 20 1 0 0\n");
     }
 
     /// The lines, but for the record's, about segments with these options: read, opened from, arriving.
@@ -383,24 +384,24 @@ mod tests {
     }
 
     #[test]
-    fn a_count_ends_the_lines() {
+    fn a_count_ends_the_lines_and_steps_that_of_read() {
         let lines = lines_about(&[99, 2, 1, 98, 3, 0]);
-        let read = "read 0 12345 443 5000 1001 16 8192 0 - - 0 - - 0 28 0 2";
+        let read = "read 0 12345 443 5000 1001 16 8192 0 - - 0 - - 0 28 0 2 4";
         assert_eq!(lines, [read, "open 0 2", "arrive 0 0 0 0 0 2"]);
     }
 
     #[test]
-    fn a_place_ends_the_lines() {
+    fn a_place_ends_the_lines_and_steps_that_of_read() {
         let lines = lines_about(&[99, 2, 99, 1]);
-        assert_eq!(lines, ["read 4 22", "open 4 22", "arrive 4 0 0 0 0 22"]);
+        assert_eq!(lines, ["read 4 22 2", "open 4 22", "arrive 4 0 0 0 0 22"]);
         let lines = lines_about(&[1, 4, 3, 0]);
-        assert_eq!(lines, ["read 5 21", "open 5 21", "arrive 5 0 0 0 0 21"]);
+        assert_eq!(lines, ["read 5 21 2", "open 5 21", "arrive 5 0 0 0 0 21"]);
         let lines = lines_about(&[4, 2, 99, 2, 4, 2]);
-        assert_eq!(lines, ["read 6 24", "open 6 24", "arrive 6 0 0 0 0 24"]);
+        assert_eq!(lines, ["read 6 24 3", "open 6 24", "arrive 6 0 0 0 0 24"]);
     }
 
     #[test]
-    fn other_refusals_end_in_a_dash() {
+    fn other_refusals_have_a_dash() {
         let opening = opening();
         let segment = &data(NEXT, 0).options(&[99, 2]).build();
         let lines = play_calls(&[
@@ -415,7 +416,7 @@ mod tests {
                 segment,
             },
         ]);
-        assert!(lines.starts_with("read 1 -\nopen 10 -\nrecord -\nopen 0 0\n"));
+        assert!(lines.starts_with("read 1 - 0\nopen 10 -\nrecord -\nopen 0 0\n"));
         assert!(lines.contains("\narrive 8 0 0 0 0 -\n"));
     }
 

@@ -1,7 +1,7 @@
 //! Reading a TCP segment: header, options and payload.
 
 use crate::octets::{u16_at, u32_at};
-use crate::options::{Options, Walk};
+use crate::options::{Options, Reading, Walk};
 use crate::refusal::Refusal;
 use crate::serial::Seq;
 
@@ -54,20 +54,35 @@ pub struct Segment<'a> {
 impl<'a> Segment<'a> {
     // Inlined with all that reads options, so that the fields do not go by way of memory.
     #[inline(always)]
-    pub fn read(octets: &'a [u8]) -> Result<Segment<'a>, Refusal> {
-        let payload_offset = header_length(octets)?;
-        Ok(Segment {
-            source: u16_at(octets, 0),
-            destination: u16_at(octets, 2),
-            seq: Seq(u32_at(octets, 4)),
-            ack: Seq(u32_at(octets, 8)),
-            flags: Flags(octets[13]),
-            window: u16_at(octets, 14),
-            urgent: u16_at(octets, 18),
-            options: Options::read(&octets[..payload_offset])?,
-            payload_offset,
-            payload: &octets[payload_offset..],
-        })
+    pub fn read(octets: &'a [u8]) -> Reading<Segment<'a>> {
+        let payload_offset = match header_length(octets) {
+            Ok(length) => length,
+            // No option is met before the header is known to be whole.
+            Err(refusal) => {
+                return Reading {
+                    result: Err(refusal),
+                    steps: 0,
+                }
+            }
+        };
+        let Reading { result, steps } = Options::read(&octets[..payload_offset]);
+        // A match, since the compiler passes what `map` gives through memory.
+        let result = match result {
+            Ok(options) => Ok(Segment {
+                source: u16_at(octets, 0),
+                destination: u16_at(octets, 2),
+                seq: Seq(u32_at(octets, 4)),
+                ack: Seq(u32_at(octets, 8)),
+                flags: Flags(octets[13]),
+                window: u16_at(octets, 14),
+                urgent: u16_at(octets, 18),
+                options,
+                payload_offset,
+                payload: &octets[payload_offset..],
+            }),
+            Err(refusal) => Err(refusal),
+        };
+        Reading { result, steps }
     }
 
     /// LEN: the sequence numbers that the segment occupies, SYN and FIN included.
@@ -92,7 +107,7 @@ fn header_length(octets: &[u8]) -> Result<usize, Refusal> {
 
 /// The number of the refusal that reading gives, 0 for a readable segment.
 pub fn refusal_number(octets: &[u8]) -> u8 {
-    match Segment::read(octets) {
+    match Segment::read(octets).result {
         Ok(_) => 0,
         Err(refusal) => refusal.number(),
     }
@@ -101,7 +116,7 @@ pub fn refusal_number(octets: &[u8]) -> u8 {
 /// The first option of the segment whose kind is in `kinds`, with its kind and length octets;
 /// empty where none matches or the segment is unreadable.
 pub fn find_option<'a>(octets: &'a [u8], kinds: &[u8]) -> &'a [u8] {
-    match Segment::read(octets) {
+    match Segment::read(octets).result {
         // The walk never gives kinds 0 and 1, so these match nothing.
         Ok(segment) => Walk::new(&octets[..segment.payload_offset])
             .flatten()
@@ -126,7 +141,7 @@ mod tests {
     #[test]
     fn m6_no_options_is_readable() {
         let octets = header(5, 20);
-        let segment = Segment::read(&octets).unwrap();
+        let segment = Segment::read(&octets).result.unwrap();
         assert_eq!(segment.options, Options::default());
         assert_eq!((segment.payload_offset, segment.length()), (20, 0));
     }
@@ -155,16 +170,40 @@ mod tests {
         let mut octets = header(7, 30);
         octets[20..28].copy_from_slice(&[99, 2, 1, 98, 2, 4, 3, 0]);
         let fault = Refusal::OptionLength(Place(25));
-        assert_eq!(Segment::read(&octets), Err(fault));
+        assert_eq!(Segment::read(&octets).result, Err(fault));
         octets[26] = 2;
-        assert_eq!(Segment::read(&octets).unwrap().options.skipped, 2);
+        let segment = Segment::read(&octets).result.unwrap();
+        assert_eq!(segment.options.skipped, 2);
+    }
+
+    #[test]
+    fn every_answer_carries_the_steps() {
+        let steps = |octets: &[u8]| Segment::read(octets).steps;
+        let mut octets = header(7, 30);
+        octets[20..28].copy_from_slice(&[99, 2, 1, 98, 2, 4, 3, 0]);
+        assert_eq!(steps(&octets), 4);
+        octets[26] = 2;
+        assert_eq!(steps(&octets), 5);
+        // E1, E3, E2.
+        assert_eq!(steps(&octets[..19]), 0);
+        assert_eq!(steps(&octets[..27]), 0);
+        octets.resize(65_536, 1);
+        assert_eq!(steps(&octets), 0);
+    }
+
+    #[test]
+    fn payload_holds_no_steps() {
+        let mut octets = header(6, 24);
+        octets[20..].fill(1);
+        octets.resize(30, 1);
+        assert_eq!(Segment::read(&octets).steps, 4);
     }
 
     #[test]
     fn length_counts_syn_and_fin() {
         let mut octets = header(5, 27);
         octets[13] = SYN | FIN;
-        assert_eq!(Segment::read(&octets).unwrap().length(), 9);
+        assert_eq!(Segment::read(&octets).result.unwrap().length(), 9);
     }
 
     #[test]

@@ -24,12 +24,12 @@ pub fn make(connection: Connection, octets: &[u8], from: usize, end: usize, call
         let next = stream::next(octets, at, end);
         let reading = segment::read(stream::part(octets, at, skip, next));
         match reading {
-            Reading::Refused(why) => {
-                sum = sums::add(sum, sums::refusal(why));
+            Reading::Refused(why, steps) => {
+                sum = sums::add(sum, sums::refusal(why, own_steps(call, steps)));
             }
-            Reading::Segment(s) => match call {
+            Reading::Segment(s, steps) => match call {
                 1 => {
-                    sum = sums::add(sum, sums::segment(s));
+                    sum = sums::add(sum, sums::segment(s, steps));
                 }
                 4 => {
                     k = open(octets, at, next, s);
@@ -44,6 +44,14 @@ pub fn make(connection: Connection, octets: &[u8], from: usize, end: usize, call
         at = next;
     }
     Made { connection: k, sum }
+}
+
+// An arrival does not give the steps.
+fn own_steps(call: u8, steps: usize) -> usize {
+    match call {
+        1 => steps,
+        _ => 0,
+    }
 }
 
 // How many octets of a call stand before its segment.

@@ -68,9 +68,10 @@ pub fn record(k: Connection) -> u64 {
     )
 }
 
-// Of a segment that cannot be read.
-pub fn refusal(why: Refusal) -> u64 {
-    add(why.number() as u64, place(why))
+// Of a segment that cannot be read, and the steps of its options.
+pub fn refusal(why: Refusal, steps: usize) -> u64 {
+    let at_fault = add(place(why), steps as u64);
+    add(why.number() as u64, at_fault)
 }
 
 fn place(why: Refusal) -> u64 {
@@ -84,14 +85,15 @@ fn place(why: Refusal) -> u64 {
     }
 }
 
-// Of a segment that can be read.
-pub fn segment(s: Segment) -> u64 {
+// Of a segment that can be read, and the steps of its options.
+pub fn segment(s: Segment, steps: usize) -> u64 {
     let flags = s.flags;
     let said = s.options;
     let payload = s.payload;
     let place = add(payload.start as u64, wide(payload.length));
-    let counts = add(set(flags), s.skipped as u64);
-    add_four(header(s), counts, options(said), place)
+    let counts = add(s.skipped as u64, steps as u64);
+    let header = add(header(s), set(flags));
+    add_four(header, counts, options(said), place)
 }
 
 fn header(s: Segment) -> u64 {

@@ -219,8 +219,8 @@ impl Connection {
         }
         let reading = segment::read(syn);
         match reading {
-            Reading::Refused(why) => opening::refused(OpenRefusal::Segment(why)),
-            Reading::Segment(whole) => opening::open_from(own, clock, whole),
+            Reading::Refused(why, _) => opening::refused(OpenRefusal::Segment(why)),
+            Reading::Segment(whole, _) => opening::open_from(own, clock, whole),
         }
     }
 
@@ -251,10 +251,10 @@ impl Connection {
     {
         let reading = segment::read(segment);
         match reading {
-            Reading::Refused(why) => {
+            Reading::Refused(why, _) => {
                 self.unchanged(ArriveOutcome::Refused(ArriveRefusal::Segment(why)))
             }
-            Reading::Segment(whole) => self.arrive_read(clock, whole),
+            Reading::Segment(whole, _) => self.arrive_read(clock, whole),
         }
     }
 

@@ -1,4 +1,4 @@
-// The last field of a line: the place of the option at fault with E4, E5 and E6, how many unknown options were skipped where the segment is
+// The field `where` of a line: the place of the option at fault with E4, E5 and E6, how many unknown options were skipped where the segment is
 // read, opened from or judged, and nothing with any other refusal.
 use crate::text;
 use connection::ArriveOutcome;

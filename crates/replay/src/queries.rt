@@ -28,8 +28,14 @@ fn read(segment: &[u8]) {
     let reading = segment::read(segment);
     text::start(b"read", reading.number());
     match reading {
-        Reading::Refused(why) => place_or_count::place(why),
-        Reading::Segment(whole) => fields(whole),
+        Reading::Refused(why, steps) => {
+            place_or_count::place(why);
+            text::long(steps as u64);
+        }
+        Reading::Segment(whole, steps) => {
+            fields(whole);
+            text::long(steps as u64);
+        }
     }
 }
 

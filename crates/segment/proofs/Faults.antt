@@ -37,6 +37,10 @@ whole-only left e (no-length-octet h) = omega (arith, length-least left e, lengt
 whole-only left e (length-under-two h) = omega (arith, length-least left e)
 whole-only left e (past-header h) = omega (arith, length-most left e)
 
+-- A NOP is one step, and what follows it is read, to the header's last octet.
+pub nop-step : (at : ℕ) (rest : List ℕ) → paddingRule at (1 ∷ rest) ≡ nop at ∷ paddingRule (at + 1) rest
+nop-step at rest = padding-rule at 1 rest
+
 -- Kind 0 ends the list, and what follows it is not looked at.
 pub end-step : (at : ℕ) (rest : List ℕ) → paddingRule at (0 ∷ rest) ≡ end at ∷ []
 end-step at rest = padding-rule at 0 rest

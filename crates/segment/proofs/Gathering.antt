@@ -2,7 +2,7 @@
 use mathlib.Core.Bool.{Bool, true, false, cond, not, _||_, true≢false}
 use mathlib.Core.List.{List, [], _∷_, _++_}
 use mathlib.Core.Path.{_≡_, refl, sym, ap, _∙_}
-use Prim.Native.Nat.{ℕ, _+_, _*_, _≤_, _<_}
+use Prim.Native.Nat.{ℕ, _+_, _<_}
 use native.Mathlib.Omega.{arith}
 use lib.Dec.{eqb}
 use lib.ListN.{getD, length, length-append}
@@ -11,8 +11,7 @@ use Rattle.laws.specs.Lists.{filter}
 use Rattle.laws.proofs.Lists.{filter-append}
 use Rattle.segment.specs.Grammar.{Step, nop, end, whole, broken}
 use Rattle.segment.specs.Options.{Found, found, isFound, isKnown, isRepeated, isSkipped, nothing, optionIn, optionOf, skippedIn, standsIn}
-use Rattle.segment.specs.Internal.{Noted, notedWith, placeOf}
-use Rattle.segment.specs.declared.notes.Notes.{Notes}
+use Rattle.segment.specs.Internal.{Noted, placeOf}
 
 abbrev pub firstOf : Found → Found → Found
 firstOf (found at octets) later = found at octets
@@ -86,34 +85,14 @@ module _ (before : List Step) (at : ℕ) (octets : List ℕ) where
       go true = refl
       go false = refl
 
-  by-kind : (prior : Notes) → Noted before prior → 0 < at → isRepeated before kind ≡ false → Noted after (notedWith prior kind at)
-  unfolding standsIn
-  by-kind prior p past e =
-      let mss = place-after 2 (new-kind e 2 refl) in
-      let scale = place-after 3 (new-kind e 3 refl) in
-      let permitted = place-after 4 (new-kind e 4 refl) in
-      let sack = place-after 5 (new-kind e 5 refl) in
-      let timestamps = place-after 8 (new-kind e 8 refl) in
-      record {
-        are = ap (λ (n : Notes). notedWith n kind at) (p .are) ∙ sym (λ i. record {
-          mss = mss i;
-          scale = scale i;
-          permitted = permitted i;
-          sack = sack i;
-          timestamps = timestamps i;
-          skipped = skipped-after i;
-        });
-        past-start = past-start-after (p .past-start) past;
-      }
-
-  -- one more option that does not repeat, noted
-  pub noted-after : (prior : Notes) → Noted before prior → 0 < at → {k : ℕ} → kind ≡ k → isRepeated before k ≡ false → Noted after (notedWith prior k at)
-  noted-after prior p past same new = rw (sym same) (by-kind prior p past (rw same new))
-
--- at most one option is skipped for each two octets
-pub skipped-within : (prior notes : Notes) (kind at n : ℕ) → notes ≡ notedWith prior kind at → 2 * prior .skipped ≤ at → 2 ≤ n → 2 * notes .skipped ≤ at + n
-skipped-within prior notes kind at n is within two = omega (arith, ap (λ (x : Notes). x .skipped) is, go (isKnown kind))
-  where
-    go : (t : Bool) → cond t (prior .skipped) (prior .skipped + 1) ≤ prior .skipped + 1
-    go true = omega arith
-    go false = omega arith
+  -- notes with one more option: its place at its kind where that is known, otherwise one more skipped
+  pub noted-after : (notes later : List ℕ) → Noted before notes → 0 < at → isRepeated before kind ≡ false
+      → ((k : ℕ) → isKnown k ≡ true → getD later k 0 ≡ cond (eqb kind k) at (getD notes k 0))
+      → getD later 10 0 ≡ cond (isKnown kind) (getD notes 10 0) (getD notes 10 0 + 1)
+      → Noted after later
+  noted-after notes later p past new places skipped = record {
+    places = λ k known.
+        places k known ∙ ap (cond (eqb kind k) at) (p .places k known) ∙ sym (place-after k (new-kind new k known));
+    skipped = skipped ∙ ap (λ (n : ℕ). cond (isKnown kind) n (n + 1)) (p .skipped) ∙ sym skipped-after;
+    past-start = past-start-after (p .past-start) past;
+  }

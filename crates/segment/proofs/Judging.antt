@@ -1,7 +1,7 @@
 -- The rules' outcome on some steps, step by step from the left. Assumes nothing.
 use mathlib.Core.Bool.{true, false, cond, _&&_}
 use mathlib.Core.List.{List, [], _∷_, _++_, append-assoc, append-nil}
-use mathlib.Core.Option.{some, Option·some-ne-none}
+use mathlib.Core.Option.{some}
 use mathlib.Core.Path.{_≡_, refl, sym, ap, subst, _∙_}
 use Prim.Native.Nat.{ℕ, _+_}
 use native.Mathlib.Omega.{arith}
@@ -9,10 +9,8 @@ use lib.Dec.{eqb}
 use lib.ListN.{getD, length}
 use borrow.Author.Tests.{ne-eqb}
 use Rattle.segment.specs.Grammar.{Step, nop, end, whole, broken}
-use Rattle.segment.specs.Options.{Found, faultAt, faultIn, found, isFound, isKnown, isRepeated, isWrongLength, nothing, optionIn, skippedIn, stepPlace}
-use Rattle.segment.specs.Internal.{Noted, Outcome, faultOf, placeOf}
-use Rattle.segment.specs.declared.notes.Notes.{Notes}
-use Rattle.segment.specs.declared.rules.Listing.{Listing}
+use Rattle.segment.specs.Options.{Found, faultAt, faultIn, found, isFound, isKnown, isRepeated, isWrongLength, nothing, optionIn, skippedIn, stepPlace, upToFault}
+use Rattle.segment.specs.Internal.{Noted, Outcome, placeOf}
 use Rattle.segment.proofs.Gathering.{firstOf, optionIn-append, skipped-append}
 
 -- Steps before matter only by the options among them.
@@ -20,16 +18,10 @@ pub record SameOptions (a b : List Step) : Type 0 where
   pub found-same : (kinds : List ℕ) → optionIn kinds a ≡ optionIn kinds b
   pub skipped-same : skippedIn a ≡ skippedIn b
 
-same-noted : (a b : List Step) (notes : Notes) → SameOptions a b → Noted a notes → Noted b notes
+same-noted : (a b : List Step) (notes : List ℕ) → SameOptions a b → Noted a notes → Noted b notes
 same-noted a b notes e p = record {
-  are = p .are ∙ (λ i. record {
-    mss = placeOf (e .found-same (2 ∷ []) i);
-    scale = placeOf (e .found-same (3 ∷ []) i);
-    permitted = placeOf (e .found-same (4 ∷ []) i);
-    sack = placeOf (e .found-same (5 ∷ []) i);
-    timestamps = placeOf (e .found-same (8 ∷ []) i);
-    skipped = e .skipped-same i;
-  });
+  places = λ kind known. p .places kind known ∙ ap placeOf (e .found-same (kind ∷ []));
+  skipped = p .skipped ∙ e .skipped-same;
   past-start = λ kinds octets q. p .past-start kinds octets (e .found-same kinds ∙ q);
 }
 
@@ -59,43 +51,47 @@ same-fault a b (step ∷ later) e =
     let after = same-fault (a ++ (step ∷ [])) (b ++ (step ∷ [])) later (same-after a b (step ∷ []) e) in
     λ i. cond (eqb (here i) 0) (after i) (some (record { number = here i; place = stepPlace step }))
 
-same-outcome : (a b later : List Step) (r : Listing) → SameOptions a b → Outcome a later r → Outcome b later r
-same-outcome a b later r e o = record {
+same-steps : (a b later : List Step) → SameOptions a b → upToFault a later ≡ upToFault b later
+unfolding upToFault
+same-steps a b [] e = refl
+same-steps a b (step ∷ later) e =
+    let here = same-fault-at a b step e in
+    let after = same-steps (a ++ (step ∷ [])) (b ++ (step ∷ [])) later (same-after a b (step ∷ []) e) in
+    λ i. step ∷ cond (eqb (here i) 0) (after i) []
+
+same-outcome : (a b : List Step) (k : ℕ) (later : List Step) (n : ℕ) (notes : List ℕ) → SameOptions a b → Outcome a k later n notes → Outcome b k later n notes
+same-outcome a b k later n notes e o = record {
   fault-is = sym (same-fault a b later e) ∙ o .fault-is;
-  noted = λ notes listed. same-noted (a ++ later) (b ++ later) notes (same-after a b later e) (o .noted notes listed);
+  noted = λ z. same-noted (a ++ later) (b ++ later) notes (same-after a b later e) (o .noted z);
+  counted = o .counted ∙ ap (λ (l : List Step). k + length l) (same-steps a b later e);
 }
 
 -- nothing is left
-pub outcome-none : (before : List Step) (notes : Notes) → Noted before notes → Outcome before [] (Listing.Listed notes)
-unfolding faultIn
-outcome-none before notes p = record {
+pub outcome-none : (before : List Step) (k : ℕ) (notes : List ℕ) → Noted before notes → getD notes 9 0 ≡ k → Outcome before k [] 0 notes
+unfolding faultIn upToFault
+outcome-none before k notes p count = record {
   fault-is = refl;
-  noted = λ n same. subst (Noted (before ++ [])) (ap notesIn same) (subst (λ (steps : List Step). Noted steps notes) (sym (append-nil before)) p);
+  noted = λ z. subst (λ (steps : List Step). Noted steps notes) (sym (append-nil before)) p;
+  counted = omega (arith, count);
 }
-  where
-    notesIn : Listing → Notes
-    notesIn (Listing.Listed n) = n
-    notesIn (Listing.Broken place) = notes
-    notesIn (Listing.WrongLength place) = notes
-    notesIn (Listing.Repeated place) = notes
 
-module _ (before : List Step) (step : Step) (later : List Step) where
+module _ (before : List Step) (k : ℕ) (step : Step) (later : List Step) (n : ℕ) (notes : List ℕ) where
   -- a step without fault joins those before
-  pub outcome-on : faultAt before step ≡ 0 → (r : Listing) → Outcome (before ++ (step ∷ [])) later r → Outcome before (step ∷ later) r
-  unfolding faultIn
-  outcome-on e r o = record {
+  pub outcome-on : faultAt before step ≡ 0 → Outcome (before ++ (step ∷ [])) (k + 1) later n notes → Outcome before k (step ∷ later) n notes
+  unfolding faultIn upToFault
+  outcome-on e o = record {
     fault-is = rw e (o .fault-is);
-    noted = λ notes listed.
-        subst (λ (steps : List Step). Noted steps notes) (append-assoc before (step ∷ []) later) (o .noted notes listed);
+    noted = λ z. subst (λ (steps : List Step). Noted steps notes) (append-assoc before (step ∷ []) later) (o .noted z);
+    counted = rw e (omega (arith, o .counted));
   }
 
-  -- a fault decides, and its place is the step's
-  pub outcome-fault : (n : ℕ) → (n ≡ 0 → ⊥) → faultAt before step ≡ n → (r : Listing)
-      → faultOf r ≡ some (record { number = n; place = stepPlace step }) → Outcome before (step ∷ later) r
-  unfolding faultIn
-  outcome-fault n given e r is = record {
-    fault-is = rw e (simp (ne-eqb n 0 given)) ∙ sym is;
-    noted = λ notes listed. absurd (Option·some-ne-none _ (sym is ∙ ap faultOf listed));
+  -- a fault decides: its place is the step's, and the step is the last that counts
+  pub outcome-fault : (n ≡ 0 → ⊥) → faultAt before step ≡ n → getD notes 11 0 ≡ stepPlace step → getD notes 9 0 ≡ k + 1 → Outcome before k (step ∷ later) n notes
+  unfolding faultIn upToFault
+  outcome-fault given e place count = record {
+    fault-is = rw (e, place) (simp (ne-eqb n 0 given));
+    noted = λ z. absurd (given z);
+    counted = rw e (simp (ne-eqb n 0 given) count);
   }
 
 -- a step that is no option leaves the options among those before
@@ -111,36 +107,39 @@ no-option before step e z = record {
     alone nothing = refl
     alone (found at octets) = refl
 
-module _ (before : List Step) (at : ℕ) where
-  pub outcome-nop : (later : List Step) (r : Listing) → Outcome before later r → Outcome before (nop at ∷ later) r
+module _ (before : List Step) (k at : ℕ) where
+  pub outcome-nop : (later : List Step) (n : ℕ) (notes : List ℕ) → Outcome before (k + 1) later n notes → Outcome before k (nop at ∷ later) n notes
   unfolding faultAt optionIn
-  outcome-nop later r o =
-      outcome-on before (nop at) later refl r (same-outcome before _ later r (no-option before (nop at) (λ kinds. refl) refl) o)
+  outcome-nop later n notes o =
+      outcome-on before k (nop at) later n notes refl
+      (same-outcome before _ (k + 1) later n notes (no-option before (nop at) (λ kinds. refl) refl) o)
 
-  pub outcome-end : (notes : Notes) → Noted before notes → Outcome before (end at ∷ []) (Listing.Listed notes)
+  pub outcome-end : (notes : List ℕ) → Noted before notes → getD notes 9 0 ≡ k + 1 → Outcome before k (end at ∷ []) 0 notes
   unfolding faultAt optionIn
-  outcome-end notes p =
-      let r : Listing = Listing.Listed notes in
-      outcome-on before (end at) [] refl r (same-outcome before _ [] r (no-option before (end at) (λ kinds. refl) refl) (outcome-none before notes p))
+  outcome-end notes p count =
+      outcome-on before k (end at) [] 0 notes refl
+      (same-outcome before _ (k + 1) [] 0 notes (no-option before (end at) (λ kinds. refl) refl) (outcome-none before (k + 1) notes p count))
 
-  pub outcome-broken : (later : List Step) → Outcome before (broken at ∷ later) (Listing.Broken at)
+  module _ (later : List Step) (notes : List ℕ) (place : getD notes 11 0 ≡ at) (count : getD notes 9 0 ≡ k + 1) where
+    pub outcome-broken : Outcome before k (broken at ∷ later) 4 notes
+    unfolding faultAt
+    outcome-broken = outcome-fault before k (broken at) later 4 notes (λ z. omega arith) refl place count
+
+    module _ (octets : List ℕ) where
+      abbrev kind : ℕ
+      kind = getD octets 0 0
+
+      pub outcome-wrong : isWrongLength kind (length octets) ≡ true → Outcome before k (whole at octets ∷ later) 5 notes
+      unfolding faultAt
+      outcome-wrong e = outcome-fault before k (whole at octets) later 5 notes (λ z. omega arith) (simp e) place count
+
+      pub outcome-repeated : isWrongLength kind (length octets) ≡ false → isRepeated before kind ≡ true
+          → Outcome before k (whole at octets ∷ later) 6 notes
+      unfolding faultAt
+      outcome-repeated e f = outcome-fault before k (whole at octets) later 6 notes (λ z. omega arith) (simp (e, f)) place count
+
+  pub outcome-whole : (octets : List ℕ) (later : List Step) (n : ℕ) (notes : List ℕ) → isWrongLength (getD octets 0 0) (length octets) ≡ false
+      → isRepeated before (getD octets 0 0) ≡ false → Outcome (before ++ (whole at octets ∷ [])) (k + 1) later n notes
+      → Outcome before k (whole at octets ∷ later) n notes
   unfolding faultAt
-  outcome-broken later = outcome-fault before (broken at) later 4 (λ z. omega arith) refl (Listing.Broken at) refl
-
-module _ (before : List Step) (at : ℕ) (octets : List ℕ) (later : List Step) where
-  abbrev kind : ℕ
-  kind = getD octets 0 0
-
-  pub outcome-wrong : isWrongLength kind (length octets) ≡ true → Outcome before (whole at octets ∷ later) (Listing.WrongLength at)
-  unfolding faultAt
-  outcome-wrong e = outcome-fault before (whole at octets) later 5 (λ z. omega arith) (simp e) (Listing.WrongLength at) refl
-
-  pub outcome-repeated : isWrongLength kind (length octets) ≡ false → isRepeated before kind ≡ true
-      → Outcome before (whole at octets ∷ later) (Listing.Repeated at)
-  unfolding faultAt
-  outcome-repeated e f = outcome-fault before (whole at octets) later 6 (λ z. omega arith) (simp (e, f)) (Listing.Repeated at) refl
-
-  pub outcome-whole : isWrongLength kind (length octets) ≡ false → isRepeated before kind ≡ false
-      → (r : Listing) → Outcome (before ++ (whole at octets ∷ [])) later r → Outcome before (whole at octets ∷ later) r
-  unfolding faultAt
-  outcome-whole e f = outcome-on before (whole at octets) later (simp (e, f))
+  outcome-whole octets later n notes e f = outcome-on before k (whole at octets) later n notes (simp (e, f))

@@ -8,9 +8,7 @@ use lib.ListN.{drop, getD, take}
 use Rattle.laws.specs.Lists.{Each, EachTwo}
 use Rattle.segment.specs.Grammar.{Step, whole}
 use Rattle.segment.specs.Options.{stepPlace}
-use Rattle.segment.specs.Reading.{dataOffset, reading, refusedAt, shown, stepsOf}
-use Rattle.segment.specs.declared.Reading.{Reading}
-use Rattle.segment.specs.declared.Refusal.{Refusal}
+use Rattle.segment.specs.Reading.{dataOffset, reading, stepsOf, stepsTaken}
 use Rattle.segment.proofs.Faults.{Broken, Judged, Known, RightLength, broken-only, broken-option, end-passed, first-time, nop-passed, second-time, unknown-kind, wrong-length}
 use Rattle.segment.proofs.Membership.{of-each}
 use Rattle.segment.proofs.Numbers.{Given, faulty, given, offset-low, offset-past, readable, too-long, too-short}
@@ -62,12 +60,12 @@ module _ (s : List ℕ) where
   at-step before step after n stands there (first-time at octets right new) nonzero = absurd (nonzero refl)
   at-step before step after n stands there (unknown-kind at octets unknown) nonzero = absurd (nonzero refl)
 
-  by-number : (n place : ℕ) (p : Option ℕ) → Given s n p → p ≡ some place → FaultThere s n place
-  by-number n place p (too-short h) e = absurd (Option·some-ne-none place (sym e))
-  by-number n place p (too-long h) e = absurd (Option·some-ne-none place (sym e))
-  by-number n place p (offset-low long short h) e = absurd (Option·some-ne-none place (sym e))
-  by-number n place p (offset-past long short least h) e = absurd (Option·some-ne-none place (sym e))
-  by-number n place p (faulty passed before step after m stands clean j nonzero) e =
+  by-number : (n place : ℕ) (p : Option ℕ) (steps : ℕ) → Given s n p steps → p ≡ some place → FaultThere s n place
+  by-number n place p steps (too-short h) e = absurd (Option·some-ne-none place (sym e))
+  by-number n place p steps (too-long h) e = absurd (Option·some-ne-none place (sym e))
+  by-number n place p steps (offset-low long short h) e = absurd (Option·some-ne-none place (sym e))
+  by-number n place p steps (offset-past long short least h) e = absurd (Option·some-ne-none place (sym e))
+  by-number n place p steps (faulty passed before step after m stands clean j nonzero) e =
       let there = each-there before step after (subst (Each (ShownIn s)) stands (each-shown s)) in
       let counted = place-counted s before step after stands in
       subst (FaultThere s n) (counted ∙ Option·some-injective _ _ e) (record {
@@ -76,19 +74,8 @@ module _ (s : List ℕ) where
         before-payload = there .before-payload;
         wrong = at-step before step after n stands there j nonzero;
       })
-  by-number n place p (readable passed clean) e = absurd (Option·some-ne-none place (sym e))
+  by-number n place p steps (readable passed clean) e = absurd (Option·some-ne-none place (sym e))
 
   -- the place is that of an option's kind octet, among the options, and that option is wrong as the number says
   pub fault-there : (place : ℕ) → reading s .place ≡ some place → FaultThere s (reading s .number) place
-  fault-there place e = by-number (reading s .number) place (reading s .place) (given s) e
-
--- each case that the code answers with holds the place as it is
-module _ (place : ℕ) where
-  pub broken-holds : shown (Reading.Refused (Refusal.BrokenOption place)) ≡ refusedAt (record { number = 4; place = place })
-  broken-holds = refl
-
-  pub wrong-length-holds : shown (Reading.Refused (Refusal.WrongOptionLength place)) ≡ refusedAt (record { number = 5; place = place })
-  wrong-length-holds = refl
-
-  pub repeated-holds : shown (Reading.Refused (Refusal.RepeatedOption place)) ≡ refusedAt (record { number = 6; place = place })
-  repeated-holds = refl
+  fault-there place e = by-number (reading s .number) place (reading s .place) (stepsTaken s) (given s) e

@@ -7,11 +7,11 @@ use Prim.Native.Nat.{ℕ, _*_, _≤_, _<_}
 use native.Mathlib.Omega.{arith}
 use lib.Dec.{eqb, ltb}
 use lib.ListN.{getD, length}
-use borrow.Author.Tests.{eqb-false, le-ltb, lt-ltb, ltb-false, ne-eqb}
+use borrow.Author.Tests.{eqb-false, eqb-true, le-ltb, lt-ltb, ltb-false, ne-eqb}
 use Rattle.laws.proofs.Choices.{neither}
 use Rattle.segment.specs.Grammar.{Step, broken, end, nop, whole}
-use Rattle.segment.specs.Options.{Fault, blockList, faultAt, faultIn, isRepeated, isWrongLength, nothing, optionIn, optionsOf, skippedIn, stepPlace}
-use Rattle.segment.specs.Reading.{Answer, dataOffset, flagsOf, foundOption, matching, numberOf, optionsRead, readAs, reading, refused, refusedAt, segmentOf, shown, stepsOf, withFields}
+use Rattle.segment.specs.Options.{Fault, blockList, faultAt, faultIn, isRepeated, isWrongLength, nothing, optionIn, optionsOf, skippedIn, standsIn, stepPlace, upToFault}
+use Rattle.segment.specs.Reading.{Answer, Report, countedSteps, dataOffset, flagsOf, foundOption, matching, numberOf, optionsRead, readAs, reading, refused, refusedAt, reported, segmentOf, shown, stepsOf, stepsTaken, withFields}
 use Rattle.segment.specs.Readable.{Readable}
 use Rattle.segment.specs.declared.Flags.{Flags}
 use Rattle.segment.specs.declared.Options.{Options}
@@ -19,6 +19,10 @@ use Rattle.segment.specs.declared.Reading.{Reading}
 use Rattle.segment.specs.declared.Refusal.{Refusal}
 use Rattle.segment.specs.declared.SackBlocks.{SackBlocks}
 use Rattle.segment.specs.declared.Segment.{Segment}
+
+-- equal reports have equal answers
+pub answer-is : {a b : Report} → a ≡ b → a .answer ≡ b .answer
+answer-is e = ap (λ (r : Report). r .answer) e
 
 -- no refusal has the number 0
 pub number-some : (why : Refusal) → numberOf why ≡ 0 → ⊥
@@ -103,6 +107,17 @@ fault-range before (step ∷ later) fault e = go (eqb (faultAt before step) 0) r
         let range = fault-at-range before step (eqb-false _ 0 z) in
         (omega (arith, same, range .0), omega (arith, same, range .1))
 
+-- what is answered beside E4, E5 and E6 is no fault
+pub zero-left : (steps : List Step) (number place : ℕ) → faultIn [] steps ≡ cond (eqb number 0) none (some (record { number = number; place = place }))
+    → (number ≡ 4 → ⊥) → (number ≡ 5 → ⊥) → (number ≡ 6 → ⊥) → number ≡ 0
+zero-left steps number place e four five six = go (eqb number 0) refl e
+  where
+    go : (t : Bool) → eqb number 0 ≡ t → faultIn [] steps ≡ cond t none (some (record { number = number; place = place })) → number ≡ 0
+    go true z e = eqb-true number 0 z
+    go false z e =
+        let range = fault-range [] steps _ e in
+        absurd (omega (arith, range .0, range .1, four, five, six))
+
 -- without one the options are read
 no-fault : (steps : List Step) → optionsRead steps .number ≡ 0 → faultIn [] steps ≡ none
 unfolding optionsRead Option·elim
@@ -111,6 +126,27 @@ no-fault steps e = go (faultIn [] steps) refl e
     go : (f : Option Fault) → faultIn [] steps ≡ f → Option·elim f (readAs (optionsOf steps)) refusedAt .number ≡ 0 → faultIn [] steps ≡ none
     go none same n = same
     go (some fault) same n = absurd (omega (arith, fault-range [] steps fault same .0, n))
+
+-- E1, E2 and E3 take no step
+pub no-steps : (s : List ℕ) (n : ℕ) → standsIn n (1 ∷ 2 ∷ 3 ∷ []) ≡ true → reading s ≡ refused n → reported s ≡ record { answer = refused n; steps = 0 }
+unfolding countedSteps
+no-steps s n early e = λ i. record { answer = e i; steps = none i }
+  where
+    none : stepsTaken s ≡ 0
+    none = rw e (simp early)
+
+-- whatever else is answered, the steps up to and with the first fault count
+pub steps-if : (s : List ℕ) → Passed s → countedSteps s ≡ upToFault [] (stepsOf s)
+unfolding countedSteps optionsRead Option·elim standsIn
+steps-if s p = rw (by-options s p) (go (faultIn [] (stepsOf s)) refl)
+  where
+    go : (f : Option Fault) → faultIn [] (stepsOf s) ≡ f
+        → cond (standsIn (Option·elim f (readAs (optionsOf (stepsOf s))) refusedAt .number) (1 ∷ 2 ∷ 3 ∷ [])) [] (upToFault [] (stepsOf s))
+        ≡ upToFault [] (stepsOf s)
+    go none same = refl
+    go (some fault) same =
+        let least = fault-range [] (stepsOf s) fault same .0 in
+        simp (ne-eqb (fault .number) 1 (λ e. omega (arith, e)), ne-eqb (fault .number) 2 (λ e. omega (arith, e)), ne-eqb (fault .number) 3 (λ e. omega (arith, e)))
 
 -- a segment with the number 0
 module _ (s : List ℕ) (e : reading s .number ≡ 0) where
@@ -185,8 +221,8 @@ module _ (s kinds : List ℕ) where
   unfolding foundOption
   by-number a e = ap (λ (x : Answer Segment). cond (eqb (x .number) 0) (optionIn (matching kinds) (stepsOf s)) nothing) e
 
-  pub found-none : (why : Refusal) → reading s ≡ shown (Reading.Refused why) → foundOption s kinds ≡ nothing
-  found-none why e = by-number (shown (Reading.Refused why)) e ∙ simp (ne-eqb _ _ (number-some why))
+  pub found-none : (why : Refusal) (steps : ℕ) → reported s ≡ shown (Reading.Refused why steps) → foundOption s kinds ≡ nothing
+  found-none why steps e = by-number _ (answer-is e) ∙ simp (ne-eqb _ _ (number-some why))
 
   pub found-some : (w : Segment) → reading s ≡ readAs w → foundOption s kinds ≡ optionIn (matching kinds) (stepsOf s)
   found-some w e = by-number (readAs w) e

@@ -3,18 +3,18 @@
 use mathlib.Core.Bool.{Bool, true, false, cond, not, true≢false}
 use mathlib.Core.List.{List, [], _∷_}
 use mathlib.Core.Path.{_≡_, refl, sym, ap, subst, _∙_}
-use Prim.Native.Nat.{ℕ, _+_, _*_, _≤_, _<_}
+use Prim.Native.Nat.{ℕ, _+_, _≤_, _<_}
 use native.Mathlib.Numerals.{add-one}
 use native.Mathlib.Omega.{arith}
-use lib.ListN.{getD, length, length-drop, length-take, take}
+use lib.ListN.{getD, length}
 use Rattle.laws.specs.Lists.{filter}
-use Rattle.laws.proofs.Choices.{either}
-use Rattle.segment.specs.Grammar.{Step, broken, end, length-least, length-most, nop, whole}
+use Rattle.segment.specs.Grammar.{Step, broken, end, nop, whole}
 use Rattle.segment.specs.Options.{isKnown, isSkipped, skippedIn}
-use Rattle.segment.specs.Reading.{dataOffset, optionOctets, readAs, reading, segmentOf, stepsOf}
+use Rattle.segment.specs.Reading.{optionOctets, readAs, reading, segmentOf, stepsOf}
 use Rattle.segment.specs.declared.Segment.{Segment}
+use Rattle.segment.proofs.Bounds.{few-steps, octets-most, skipped-fewer}
 use Rattle.segment.proofs.Faults.{Known, known-only, known-not, right-known}
-use Rattle.segment.proofs.Induction.{Steps, along-rules}
+use Rattle.segment.proofs.Induction.{along-rules}
 use Rattle.segment.proofs.Readable.{fields-are}
 
 -- so many options of unknown kind stand among these steps
@@ -53,24 +53,6 @@ counted-only steps n (after-known at octets {later} known rest) =
 counted-only steps n (one-more at octets {later} {n = m} unknown rest) =
     simp (known-not _ unknown) (omega (arith, counted-only later m rest))
 
--- each option that is skipped has at least two octets
-abbrev TwoEach : ℕ → List ℕ → List Step → Type 0
-TwoEach at left steps = 2 * skippedIn steps ≤ length left
-
-two-each : Steps TwoEach
-two-each = record {
-  at-none = λ at. omega arith;
-  at-end = λ at rest. omega arith;
-  at-nop = λ at rest later h. omega arith;
-  at-broken = λ at kind rest two b. omega arith;
-  at-whole = λ at kind rest later two b h.
-      let left : List ℕ = kind ∷ rest in
-      let n : ℕ = getD left 1 0 in
-      let room : 2 * (skippedIn later + 1) ≤ length left = omega (arith, h, length-least left b, length-most left b, length-drop n left) in
-      either (λ l. 2 * length l ≤ length left) (isSkipped (whole at (take n left))) (whole at (take n left) ∷ filter isSkipped later) (filter isSkipped later)
-      (λ _. omega arith) (λ _. omega arith);
-}
-
 -- of a segment that is read
 module _ (s : List ℕ) (w : Segment) (e : reading s ≡ readAs w) where
   pub skipped-is : w .skipped ≡ skippedIn (stepsOf s)
@@ -84,4 +66,6 @@ module _ (s : List ℕ) (w : Segment) (e : reading s ≡ readAs w) where
   -- the data offset has four bits
   pub at-most-twenty : getD s 12 0 < 256 → w .skipped ≤ 20
   at-most-twenty octet =
-      omega (arith, skipped-is, along-rules two-each 20 (optionOctets s), length-drop 20 (take (4 * dataOffset s) s), length-take (4 * dataOffset s) s)
+      let header-end : ℕ = 20 + length (optionOctets s) in
+      let two-each = along-rules few-steps 20 (optionOctets s) .1 header-end refl in
+      omega (arith, skipped-is, skipped-fewer header-end (stepsOf s), two-each, octets-most s octet)

@@ -1,62 +1,60 @@
 -- What the contracts of private functions cite: what the reader notes of the options while the rules run, and how far a step reaches. No
 -- promise of the crate rests on these.
-use Prim.Native.Nat.{ℕ, _+_, _≤_}
-use mathlib.Core.Bool.{Bool, cond}
+use Prim.Native.Nat.{ℕ, _+_, _-_, _*_, _≤_, _<_}
+use mathlib.Core.Bool.{Bool, true, cond}
 use mathlib.Core.List.{List, [], _∷_, _++_}
 use mathlib.Core.Option.{Option, none, some}
 use mathlib.Core.Path.{_≡_}
 use lib.Dec.{eqb}
 use lib.ListN.{drop, getD, length, take}
 use Rattle.segment.specs.Grammar.{Step, paddingRule}
-use Rattle.segment.specs.Options.{Fault, Found, faultIn, found, isKnown, nothing, optionIn, optionOf, skippedIn, standsIn}
+use Rattle.segment.specs.Options.{Fault, Found, faultIn, found, isKnown, nothing, optionIn, optionOf, skippedIn, standsIn, upToFault}
 use Rattle.segment.specs.Reading.{matching}
 use Rattle.segment.specs.Part.{Inside}
-use Rattle.segment.specs.declared.notes.Notes.{Notes}
-use Rattle.segment.specs.declared.rules.Listing.{Listing}
 
 -- the place of an option, 0 where there is none
 abbrev pub placeOf : Found → ℕ
 placeOf nothing = 0
 placeOf (found place octets) = place
 
--- the place of each known option, and how many others there are
-abbrev pub notesOf : List Step → Notes
-notesOf steps = record {
-  mss = placeOf (optionOf 2 steps);
-  scale = placeOf (optionOf 3 steps);
-  permitted = placeOf (optionOf 4 steps);
-  sack = placeOf (optionOf 5 steps);
-  timestamps = placeOf (optionOf 8 steps);
-  skipped = skippedIn steps;
-}
+-- The notes are the octets that `src/notes.rt` lists: at a known kind the place of its option, at 9 the steps taken, at 10 the options skipped,
+-- at 11 the place of the option read last.
 
--- what is noted of the options among some steps, none of which stands at place 0
-pub record Noted (steps : List Step) (notes : Notes) : Type 0 where
-  pub are : notes ≡ notesOf steps
+-- what is noted of the options among some steps, none of which stands at place 0: the place of each known one, and how many others there are
+pub record Noted (steps : List Step) (notes : List ℕ) : Type 0 where
+  pub places : (kind : ℕ) → isKnown kind ≡ true → getD notes kind 0 ≡ placeOf (optionOf kind steps)
+  pub skipped : getD notes 10 0 ≡ skippedIn steps
   pub past-start : (kinds octets : List ℕ) → optionIn kinds steps ≡ found 0 octets → ⊥
 
--- the notes with one more option: its place, or one more that is skipped
-abbrev pub notedWith : Notes → ℕ → ℕ → Notes
-notedWith prior kind at = record {
-  mss = cond (eqb kind 2) at (prior .mss);
-  scale = cond (eqb kind 3) at (prior .scale);
-  permitted = cond (eqb kind 4) at (prior .permitted);
-  sack = cond (eqb kind 5) at (prior .sack);
-  timestamps = cond (eqb kind 8) at (prior .timestamps);
-  skipped = cond (isKnown kind) (prior .skipped) (prior .skipped + 1);
-}
+-- a step takes an octet at least, and an option that is skipped two, so that the counts up to a place fit into their octets
+pub record Room (notes : List ℕ) (at : ℕ) : Type 0 where
+  pub octets : length notes ≡ 12
+  pub steps-most : getD notes 9 0 ≤ at
+  pub skipped-most : 2 * getD notes 10 0 ≤ at
 
--- the fault of each case of the rules' answer
-abbrev pub faultOf : Listing → Option Fault
-faultOf (Listing.Listed notes) = none
-faultOf (Listing.Broken place) = some (record { number = 4; place = place })
-faultOf (Listing.WrongLength place) = some (record { number = 5; place = place })
-faultOf (Listing.Repeated place) = some (record { number = 6; place = place })
+-- the fault of each number that the rules answer, with the place that is noted last
+abbrev pub faultOf : ℕ → List ℕ → Option Fault
+faultOf number notes = cond (eqb number 0) none (some (record { number = number; place = getD notes 11 0 }))
 
--- what the rules make of some steps that follow others: the first fault, or what is noted of all
-pub record Outcome (before steps : List Step) (r : Listing) : Type 0 where
-  pub fault-is : faultIn before steps ≡ faultOf r
-  pub noted : (notes : Notes) → r ≡ Listing.Listed notes → Noted (before ++ steps) notes
+-- what the rules make of some steps that follow others, of which `earlier` counted: the first fault, or what is noted of all; and how many
+-- steps then count
+pub record Outcome (before : List Step) (earlier : ℕ) (steps : List Step) (number : ℕ) (notes : List ℕ) : Type 0 where
+  pub fault-is : faultIn before steps ≡ faultOf number notes
+  pub noted : number ≡ 0 → Noted (before ++ steps) notes
+  pub counted : getD notes 9 0 ≡ earlier + length (upToFault before steps)
+
+-- a rule answers a number and leaves notes, from notes that are those of the steps before
+abbrev pub Lists : List Step → List ℕ → ℕ → List ℕ → Type 0
+Lists steps notes number after = (before : List Step) → Noted before notes → Outcome before (getD notes 9 0) steps number after
+
+-- the first place that has no NOP: each octet before it is one step
+pub record AfterNops (header : List ℕ) (from at : ℕ) : Type 0 where
+  pub forward : from ≤ at
+  pub within : at ≤ length header
+  pub no-nop : at < length header → getD header at 0 ≡ 1 → ⊥
+  pub passed : (before : List Step) (earlier number : ℕ) (notes : List ℕ)
+      → Outcome before (earlier + (at - from)) (paddingRule at (drop at header)) number notes
+      → Outcome before earlier (paddingRule from (drop from header)) number notes
 
 -- an option of the segment, of this kind and of at least n octets
 pub record Stands (s : List ℕ) (kind n place : ℕ) (octets : List ℕ) : Type 0 where

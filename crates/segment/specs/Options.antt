@@ -1,5 +1,5 @@
 -- What the options say, and which are refused (document 01, "Reading a segment" and "Numbers given when work is declined"); where the first
--- fault stands, and how many options are skipped (document 02, P6).
+-- fault stands, and how many options are skipped (document 02, P6); which steps count (P8).
 use Prim.Native.Nat.{ℕ, zero, suc, _+_, _-_, _/_}
 use mathlib.Core.Bool.{Bool, true, false, cond, not, _&&_, _||_}
 use mathlib.Core.List.{List, [], _∷_, _++_, map}
@@ -97,6 +97,11 @@ faultIn before (step ∷ later) =
     let number = faultAt before step in
     let after = faultIn (before ++ (step ∷ [])) later in
     cond (eqb number 0) after (some (record { number = number; place = stepPlace step }))
+
+-- the steps up to and with the first one at fault, given the steps before; all of them where none is
+unfoldable pub upToFault : List Step → List Step → List Step
+upToFault before [] = []
+upToFault before (step ∷ later) = step ∷ cond (eqb (faultAt before step) 0) (upToFault (before ++ (step ∷ [])) later) []
 
 -- an option that is skipped: it has a length, and its kind is not known
 abbrev pub isSkipped : Step → Bool

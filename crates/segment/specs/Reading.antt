@@ -1,14 +1,15 @@
--- Reading a segment (document 01, "Reading a segment" and "Numbers given when work is declined").
+-- Reading a segment (document 01, "Reading a segment" and "Numbers given when work is declined"), and the number of steps that reading its
+-- options reports (document 02, P8).
 use Prim.Native.Nat.{ℕ, _+_, _-_, _*_, _/_, _%_, _^_}
 use mathlib.Core.Bool.{Bool, cond, _||_}
-use mathlib.Core.List.{List, []}
+use mathlib.Core.List.{List, [], _∷_}
 use mathlib.Core.Option.{Option, none, some, Option·elim, Option·map}
 use lib.Dec.{eqb, leb, ltb}
 use lib.ListN.{drop, getD, length, take}
 use Rattle.laws.specs.Lists.{filter}
 use Rattle.octets.specs.Octets.{numberAt}
 use Rattle.segment.specs.Grammar.{Step, paddingRule}
-use Rattle.segment.specs.Options.{Fault, Found, faultIn, nothing, optionIn, optionsOf, skippedIn}
+use Rattle.segment.specs.Options.{Fault, Found, faultIn, nothing, optionIn, optionsOf, skippedIn, standsIn, upToFault}
 use Rattle.segment.specs.declared.Flags.{Flags}
 use Rattle.segment.specs.declared.Options.{Options}
 use Rattle.segment.specs.declared.Reading.{Reading}
@@ -54,10 +55,15 @@ faultPlace (Refusal.BrokenOption place) = some place
 faultPlace (Refusal.WrongOptionLength place) = some place
 faultPlace (Refusal.RepeatedOption place) = some place
 
--- the number, the place and the fields of each case of the answer that the code gives
-abbrev pub shown : Reading → Answer Segment
-shown (Reading.Segment segment) = readAs segment
-shown (Reading.Refused why) = record { number = numberOf why; place = faultPlace why; fields = none }
+-- what reading reports: its answer, and the number of steps
+pub record Report : Type 0 where
+  pub answer : Answer Segment
+  pub steps : ℕ
+
+-- the number, the place and the fields of each case of the answer that the code gives, and its number of steps
+abbrev pub shown : Reading → Report
+shown (Reading.Segment segment steps) = record { answer = readAs segment; steps = steps }
+shown (Reading.Refused why steps) = record { answer = record { number = numberOf why; place = faultPlace why; fields = none }; steps = steps }
 
 -- the options of the steps, or the first fault
 unfoldable pub optionsRead : List Step → Answer Options
@@ -120,6 +126,18 @@ reading s =
     (cond (ltb 65535 (length s)) (refused 2)
     (cond (ltb (dataOffset s) 5 || ltb (length s) (4 * dataOffset s)) (refused 3)
     byOptions))
+
+-- the steps that count: none with E1 to E3, otherwise those up to and with the first fault
+unfoldable pub countedSteps : List ℕ → List Step
+countedSteps s = cond (standsIn (reading s .number) (1 ∷ 2 ∷ 3 ∷ [])) [] (upToFault [] (stepsOf s))
+
+-- how many they are
+abbrev pub stepsTaken : List ℕ → ℕ
+stepsTaken s = length (countedSteps s)
+
+-- what is reported of a segment
+abbrev pub reported : List ℕ → Report
+reported s = record { answer = reading s; steps = stepsTaken s }
 
 -- the kinds of a list that can match: kinds 0 and 1 match nothing
 abbrev pub matching : List ℕ → List ℕ

@@ -9,9 +9,9 @@ mod values;
 ghost use mathlib.Core.Path.{_≡_};
 ghost use denote.Ref.{ptr};
 ghost use Rattle.segment.specs.Part.{IsPart};
-ghost use Rattle.segment.specs.Reading.{foundOption, numberOf, reading, shown};
+ghost use Rattle.segment.specs.Reading.{foundOption, numberOf, reported, shown};
+use octets::read_u8;
 use offers::Scale;
-use rules::Listing;
 use serial::Range;
 use serial::Seq;
 use serial::Stamp;
@@ -117,51 +117,56 @@ impl Refusal {
     }
 }
 
+// What reading a segment answers, each with the number of steps that its options took: one for each NOP, for a kind 0 and for each other
+// option, up to and with the first at fault; 0 with E1 to E3.
 pub enum Reading {
-    Segment(Segment),
-    Refused(Refusal),
+    Segment(Segment, usize),
+    Refused(Refusal, usize),
 }
 
 impl Reading {
     // The refusal's number, 0 where the segment can be read.
     pub fn number(self) -> u8
-        ensures { λ r. ⌜ r ≡ shown self .number ⌝ }
+        ensures { λ r. ⌜ r ≡ shown self .answer .number ⌝ }
     {
         match self {
-            Reading::Segment(_) => 0,
-            Reading::Refused(why) => why.number(),
+            Reading::Segment(_, _) => 0,
+            Reading::Refused(why, _) => why.number(),
         }
     }
 }
 
-// Reads a segment, or says why it is refused: E1, E2, E3, then the options from left to right.
+// Reads a segment, or says why it is refused: E1, E2, E3, then the options from left to right, whose steps it counts.
 pub fn read(segment: &[u8]) -> Reading
-    ensures { λ r. ⌜ shown r ≡ reading (now (segment .entry)) ⌝ }
+    ensures { λ r. ⌜ shown r ≡ reported (now (segment .entry)) ⌝ }
 {
     if segment.len() < FIXED_HEADER {
-        return Reading::Refused(Refusal::TooShort);
+        return Reading::Refused(Refusal::TooShort, 0);
     }
     if MAX_SEGMENT < segment.len() {
-        return Reading::Refused(Refusal::TooLong);
+        return Reading::Refused(Refusal::TooLong, 0);
     }
     let end = fixed_header::end(segment);
     if end < FIXED_HEADER {
-        return Reading::Refused(Refusal::BadDataOffset);
+        return Reading::Refused(Refusal::BadDataOffset, 0);
     }
     if segment.len() < end {
-        return Reading::Refused(Refusal::BadDataOffset);
+        return Reading::Refused(Refusal::BadDataOffset, 0);
     }
-    let listing = rules::padding_rule(&segment[0..end], FIXED_HEADER, notes::none());
-    match listing {
-        Listing::Listed(notes) => {
-            let options = values::options(segment, notes);
-            let skipped = notes.skipped as usize;
-            Reading::Segment(fixed_header::fields(segment, end, skipped, options))
-        }
+    let mut notes = [0u8; notes::LENGTH];
+    let number = rules::padding_rule(&segment[0..end], FIXED_HEADER, &mut notes);
+    let steps = read_u8(&notes, notes::STEPS) as usize;
+    let place = read_u8(&notes, notes::LAST);
+    match number {
         // Returned at once, so that the fields of a segment are stored as they are read.
-        Listing::Broken(place) => return Reading::Refused(Refusal::BrokenOption(place)),
-        Listing::WrongLength(place) => return Reading::Refused(Refusal::WrongOptionLength(place)),
-        Listing::Repeated(place) => return Reading::Refused(Refusal::RepeatedOption(place)),
+        4 => return Reading::Refused(Refusal::BrokenOption(place), steps),
+        5 => return Reading::Refused(Refusal::WrongOptionLength(place), steps),
+        6 => return Reading::Refused(Refusal::RepeatedOption(place), steps),
+        _ => {
+            let options = values::options(segment, &notes);
+            let skipped = read_u8(&notes, notes::SKIPPED) as usize;
+            Reading::Segment(fixed_header::fields(segment, end, skipped, options), steps)
+        }
     }
 }
 
@@ -172,8 +177,8 @@ pub fn find_option<'a>(segment: &'a [u8], kinds: &[u8]) -> &'a [u8]
 {
     let reading = read(segment);
     match reading {
-        Reading::Refused(_) => &segment[0..0],
-        Reading::Segment(whole) => {
+        Reading::Refused(_, _) => &segment[0..0],
+        Reading::Segment(whole, _) => {
             let payload = whole.payload;
             let end = payload.start;
             finding::first_listed(&segment[0..end], kinds)

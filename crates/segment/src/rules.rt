@@ -1,12 +1,12 @@
-// The two rules that read the options: each passes what is left to the other.
+// The two rules that read the options: each passes what is left to the other. They answer the refusal's number, 0 where no option is at
+// fault, and note the rest.
 ghost use mathlib.Core.Bool.{not};
 ghost use mathlib.Core.Path.{_≡_};
-ghost use mathlib.Core.List.{List};
-ghost use Prim.Native.Nat.{_*_, _≤_, _<_};
+ghost use Prim.Native.Nat.{_≤_, _<_};
 ghost use lib.ListN.{drop, length};
-ghost use Rattle.segment.specs.Grammar.{Step, isBroken, optionRule, paddingRule};
+ghost use Rattle.segment.specs.Grammar.{isBroken, optionRule, paddingRule};
 ghost use Rattle.segment.specs.Options.{isKnown, isWrongLength};
-ghost use Rattle.segment.specs.Internal.{Noted, Outcome};
+ghost use Rattle.segment.specs.Internal.{AfterNops, Lists, Room};
 use super::kinds::END;
 use super::kinds::MSS;
 use super::kinds::NOP;
@@ -14,65 +14,71 @@ use super::kinds::SACK;
 use super::kinds::SACK_PERMITTED;
 use super::kinds::TIMESTAMPS;
 use super::kinds::WINDOW_SCALE;
-use super::notes::Notes;
-use super::notes::is_repeated;
-use super::notes::with_option;
+use super::notes::LAST;
+use super::notes::SKIPPED;
+use super::notes::STEPS;
 
-// What the rules make of the options.
-pub enum Listing {
-    Listed(Notes),
-    // E4, E5 and E6, with the place of the kind octet.
-    Broken(u8),
-    WrongLength(u8),
-    Repeated(u8),
+// Passes NOPs from `from` on and ends the list at kind 0 or at the header's end.
+pub fn padding_rule(header: &[u8], from: usize, notes: &mut [u8]) -> u8
+    requires { ⌜ (0 < from) × Room (now notes) from × (from ≤ length (now header)) × (length (now header) ≤ 60) ⌝ }
+    ensures { λ r. ⌜ Lists (paddingRule from (drop from (now (header .entry)))) (now (notes .entry)) r (now (notes .exit)) ⌝ }
+{
+    let at = after_nops(header, from);
+    notes[STEPS] += (at - from) as u8;
+    if header.len() <= at {
+        return 0;
+    }
+    if header[at] == END {
+        notes[STEPS] += 1;
+        return 0;
+    }
+    option_rule(header, at, notes)
 }
 
-// Passes NOPs from `from` on and ends the list at kind 0 or at the header's end. `prior` is what is noted of the options before.
-pub fn padding_rule(header: &[u8], from: usize, prior: Notes) -> Listing
-    requires { ⌜ (0 < from) × (2 * prior .skipped ≤ from) × (length (now header) ≤ 60) ⌝ }
-    ensures { λ r. ⌜ ((before : List Step) → Noted before prior → Outcome before (paddingRule from (drop from (now (header .entry)))) r) ⌝ }
+// The first place from `from` on that has no NOP, or the header's end.
+fn after_nops(header: &[u8], from: usize) -> usize
+    requires { ⌜ from ≤ length (now header) ⌝ }
+    ensures { λ r. ⌜ AfterNops (now (header .entry)) from r ⌝ }
 {
     let mut at = from;
     while at < header.len() {
-        let kind = header[at];
-        if kind == END {
-            return Listing::Listed(prior);
-        }
-        if kind != NOP {
-            return option_rule(header, at, prior);
+        if header[at] != NOP {
+            return at;
         }
         at += 1;
     }
-    Listing::Listed(prior)
+    at
 }
 
 // Reads one kind, length and body, and passes what is left to the padding rule: E4, E5, E6 in this order.
-fn option_rule(header: &[u8], at: usize, prior: Notes) -> Listing
-    requires { ⌜ (0 < at) × (2 * prior .skipped ≤ at) × (at < length (now header)) × (length (now header) ≤ 60) ⌝ }
-    ensures { λ r. ⌜ ((before : List Step) → Noted before prior → Outcome before (optionRule at (drop at (now (header .entry)))) r) ⌝ }
+fn option_rule(header: &[u8], at: usize, notes: &mut [u8]) -> u8
+    requires { ⌜ (0 < at) × Room (now notes) at × (at < length (now header)) × (length (now header) ≤ 60) ⌝ }
+    ensures { λ r. ⌜ Lists (optionRule at (drop at (now (header .entry)))) (now (notes .entry)) r (now (notes .exit)) ⌝ }
 {
-    let place = at as u8;
+    notes[STEPS] += 1;
+    notes[LAST] = at as u8;
     if is_broken(&header[at..]) {
-        return Listing::Broken(place);
+        return 4;
     }
     let kind = header[at];
     let n = header[at + 1] as usize;
     let next = at + n;
     // Neither E5 nor E6 is given for an unknown kind.
     if is_unknown(kind) {
-        let skipping = with_option(prior, kind, place);
-        return padding_rule(header, next, skipping);
+        notes[SKIPPED] += 1;
+        return padding_rule(header, next, notes);
     }
     if is_wrong_length(kind, n) {
-        return Listing::WrongLength(place);
+        return 5;
     }
-    if is_repeated(kind, prior) {
-        return Listing::Repeated(place);
+    let index = kind as usize;
+    if notes[index] != 0 {
+        return 6;
     }
-    let notes = with_option(prior, kind, place);
+    notes[index] = at as u8;
     // Where the header ends with this option, nothing is left for the padding rule.
     if header.len() <= next {
-        return Listing::Listed(notes);
+        return 0;
     }
     padding_rule(header, next, notes)
 }

@@ -9,7 +9,8 @@ use super::Mss;
 use super::Options;
 use super::SackBlocks;
 use super::Timestamps;
-use super::notes::Notes;
+use super::kinds;
+use super::notes::place_of;
 use octets::read_u8;
 use octets::read_u16;
 use octets::read_u32;
@@ -19,17 +20,17 @@ use serial::Seq;
 use serial::Stamp;
 
 // The values of the options whose places are noted.
-pub fn options(segment: &[u8], notes: Notes) -> Options
-    ensures { λ r. ⌜ ((steps : List Step) → Noted steps notes → StandAll (now (segment .entry)) steps → r ≡ optionsOf steps) ⌝ }
+pub fn options(segment: &[u8], notes: &[u8]) -> Options
+    ensures { λ r. ⌜ ((steps : List Step) → Noted steps (now (notes .entry)) → StandAll (now (segment .entry)) steps → r ≡ optionsOf steps) ⌝ }
 {
-    let mss = mss(segment, notes.mss);
-    let scale = scale(segment, notes.scale);
-    let blocks = sack_blocks(segment, notes.sack);
-    let timestamps = timestamps(segment, notes.timestamps);
+    let mss = mss(segment, place_of(notes, kinds::MSS));
+    let scale = scale(segment, place_of(notes, kinds::WINDOW_SCALE));
+    let blocks = sack_blocks(segment, place_of(notes, kinds::SACK));
+    let timestamps = timestamps(segment, place_of(notes, kinds::TIMESTAMPS));
     Options {
         mss,
         scale,
-        permitted: notes.permitted != 0,
+        permitted: place_of(notes, kinds::SACK_PERMITTED) != 0,
         blocks,
         timestamps,
     }

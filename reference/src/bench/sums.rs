@@ -1,17 +1,18 @@
 //! All that a call gives, added up, so that no part of the work can be left out.
 
 use crate::connection::Connection;
-use crate::options::Options;
+use crate::options::{Options, Reading};
 use crate::ranges::Range;
 use crate::refusal::{Place, Refusal};
 use crate::segment::Segment;
 use crate::verdict::{Judged, Taken, Verdict};
 
-pub fn sum_of_reading(read: &Result<Segment, Refusal>) -> u64 {
-    match read {
+pub fn sum_of_reading(read: &Reading<Segment>) -> u64 {
+    let sum = match &read.result {
         Ok(segment) => sum_of_segment(segment),
         Err(refusal) => sum_of_refusal(refusal),
-    }
+    };
+    sum + u64::from(read.steps)
 }
 
 fn sum_of_refusal(refusal: &Refusal) -> u64 {

@@ -85,7 +85,8 @@ fn readings() {
     let header = 12_345 + 443 + 7_000 + 1_001 + 2 + 8_192 + 9;
     let options = 1_460 + 7 + 1 + 30 + 40 + 100 + 200;
     let with_unknown = 12_345 + 443 + 7_000 + 1_001 + 1 + 8_192 + 28 + 2;
-    let sum = header + options + 52 + 3 + 1 + 3 + with_unknown + (6 + 25);
+    let steps = 6 + 4 + 4;
+    let sum = header + options + 52 + 3 + 1 + 3 + with_unknown + (6 + 25) + steps;
     let expected = format!("{}\n{}\n", sum, 2 * sum);
     assert_eq!(answers(&stream(&[], &measured, &[1, 2])), expected);
 }
@@ -141,7 +142,10 @@ fn acknowledgments_are_written_in_place() {
     let calls = [acknowledgment(&[0xee; 24]), acknowledgment(&[0xee; 20])].concat();
     let mut measured = Measured::new(prepare(&opened()).unwrap(), calls.clone());
     measured.take(1);
-    let written = |start: usize| Segment::read(&measured.calls[start..start + 20]).unwrap();
+    let written = |start: usize| {
+        let read = Segment::read(&measured.calls[start..start + 20]);
+        read.result.unwrap()
+    };
     let second = BEFORE_BUFFER + 24 + BEFORE_BUFFER;
     assert_eq!(written(BEFORE_BUFFER).ack, NEXT);
     assert_eq!(written(second).seq, UNA.plus(100));

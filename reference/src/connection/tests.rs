@@ -71,7 +71,7 @@ fn acknowledged(connection: &mut Connection) -> (u32, Vec<(u32, u32)>) {
     let mut buffer = [0xee; 60];
     let length = connection.acknowledge(1, 2, CLOCK, &mut buffer).unwrap();
     assert!(buffer[length..].iter().all(|&octet| octet == 0xee));
-    let segment = Segment::read(&buffer[..length]).unwrap();
+    let segment = Segment::read(&buffer[..length]).result.unwrap();
     let edges = |range: Range| (range.left.0, range.right.0);
     let blocks = segment.options.sack.iter().map(edges).collect();
     (segment.ack.0, blocks)

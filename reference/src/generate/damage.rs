@@ -6,6 +6,7 @@ use crate::random::Random;
 use crate::segment::HEADER_LENGTH;
 use crate::serial::Seq;
 
+use super::steps::many_steps;
 use super::unknown::{scatter, unknown_kind};
 
 const KNOWN: [(u8, &[usize]); 5] = [
@@ -24,7 +25,11 @@ pub fn random_kind(random: &mut Random) -> u8 {
 
 /// A segment with random options; damage makes some of them unreadable.
 pub fn random_segment(random: &mut Random) -> Vec<u8> {
-    let options = random_options(random);
+    let options = if random.percent(25) {
+        many_steps(random)
+    } else {
+        random_options(random)
+    };
     let payload = random.pick(&[0, 0, 1, 7]);
     let seq = Seq(random.next_u32());
     let ack = Seq(random.next_u32());

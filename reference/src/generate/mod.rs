@@ -6,6 +6,7 @@ mod clock;
 mod damage;
 mod edges;
 mod opening;
+mod steps;
 mod unknown;
 
 use crate::connection::Connection;
@@ -375,14 +376,19 @@ mod tests {
     }
 
     #[test]
-    fn places_and_counts_go_far() {
-        let counts = Counts::of(&random_script(6, 40_000));
+    fn places_counts_and_steps_go_far() {
+        // With fewer calls it hangs on the seed whether openings get there.
+        let counts = Counts::of(&random_script(6, 160_000));
         for name in ["read", "open", "arrive"] {
             let most = |number| counts.span(name, number).map_or(0, |(_, most)| most);
             assert!(most(0) >= 10, "{} {}", name, most(0));
             for number in 4..=6 {
                 assert!(most(number) >= 40, "{} {} {}", name, number, most(number));
             }
+        }
+        for (number, far) in [(0, 40), (4, 35), (5, 25), (6, 25)] {
+            let most = counts.steps(number).last();
+            assert!(most >= Some(far), "{} {:?}", number, most);
         }
     }
 }

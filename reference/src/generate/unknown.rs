@@ -8,7 +8,7 @@ use crate::segment::HEADER_LENGTH;
 use super::damage::{damage_options, header_end, insert, option_of, options_of};
 
 /// Options with a fault.
-const FAULTS: [[u8; 4]; 8] = [
+pub const FAULTS: [[u8; 4]; 8] = [
     [254, 0, NOP, NOP],
     [NOP, 254, 1, NOP],
     [NOP, NOP, 254, 255],
@@ -20,7 +20,7 @@ const FAULTS: [[u8; 4]; 8] = [
 ];
 
 /// Options that are a fault when they stand there twice.
-const REPEATED: [[u8; 4]; 3] = [
+pub const REPEATED: [[u8; 4]; 3] = [
     [MSS, 4, 2, 24],
     [WINDOW_SCALE, 3, 2, NOP],
     [254, 2, SACK_PERMITTED, 2],
@@ -122,7 +122,7 @@ mod tests {
         for _ in 0..1_000 {
             let mut octets = segment.clone();
             scatter(&mut random, &mut octets);
-            match Segment::read(&octets) {
+            match Segment::read(&octets).result {
                 Ok(read) => most = most.max(read.options.skipped),
                 Err(refusal) => assert!(refusal.place().is_some()),
             }

@@ -21,6 +21,7 @@ mod rfc2018;
 mod send_side;
 mod sending;
 mod skipped;
+mod steps;
 mod stream;
 mod taking;
 mod timers;
@@ -54,6 +55,7 @@ pub fn script() -> Vec<u8> {
     refusing::add(&mut calls);
     faults::add(&mut calls);
     skipped::add(&mut calls);
+    steps::add(&mut calls);
     finding::add(&mut calls);
     offering::add(&mut calls);
     opening::add(&mut calls);
@@ -109,6 +111,24 @@ mod tests {
     }
 
     #[test]
+    fn every_number_of_steps_is_reached() {
+        let counts = Counts::of(&script());
+        let spans = [
+            (0, 0..=40),
+            (1, 0..=0),
+            (2, 0..=0),
+            (3, 0..=0),
+            (4, 1..=40),
+            // The last option has a length octet; of E6 the first takes two octets.
+            (5, 1..=39),
+            (6, 2..=38),
+        ];
+        for (number, steps) in spans {
+            assert!(counts.steps(number).eq(steps), "{}", number);
+        }
+    }
+
+    #[test]
     fn the_last_line_alone_is_bad() {
         let lines = play(&script());
         assert!(lines.ends_with("\nbad\n"));
@@ -126,7 +146,7 @@ mod tests {
     #[test]
     fn sizes() {
         let script = script();
-        assert!((150_000..600_000).contains(&script.len()));
+        assert!((150_000..700_000).contains(&script.len()));
         assert!(play(&script).len() < 1_500_000);
     }
 }

@@ -138,10 +138,11 @@ fn too_long(calls: &mut CallList) {
     calls.read(&fields::longest());
     let mut octets = zeros(79, &[]);
     octets.resize(MAX_SEGMENT + 1, 0);
-    calls.read(&octets);
+    calls.add(&Call::Refusal { segment: &octets });
     octets[12] = 96;
     octets[20..22].copy_from_slice(&[254, 1]);
-    calls.add(&Call::Refusal { segment: &octets });
+    // With steps that are not taken.
+    calls.read(&octets);
     let segment = &[80; MAX_SEGMENT + 1];
     extended(calls);
     calls.arrive_octets(SET - 1, segment);

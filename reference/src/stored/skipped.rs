@@ -13,7 +13,7 @@ use super::records::{
 };
 
 /// The shortest unknown option.
-const UNKNOWN: [u8; 2] = [254, 2];
+pub const UNKNOWN: [u8; 2] = [254, 2];
 
 pub fn add(calls: &mut CallList) {
     calls.open_plain();

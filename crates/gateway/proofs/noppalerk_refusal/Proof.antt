@@ -2,8 +2,7 @@
 -- Assumes nothing.
 use mathlib.Core.Path.{ap, _∙_}
 use borrow.Author.Needs.{needs}
-use Rattle.segment.specs.Reading.{Answer}
-use Rattle.segment.specs.declared.Segment.{Segment}
+use Rattle.segment.specs.Reading.{Report}
 use Rattle.gateway.proofs.noppalerk_refusal.Statement.{statement}
 use Rattle.gateway.proofs.noppalerk_refusal.Tie as tie
 
@@ -17,7 +16,7 @@ cast-result : tie.Need-cast-result
 cast-result c = search needs
 
 returns : tie.Need-returns
-returns c = c .number .ensures ∙ ap (λ (a : Answer Segment). a .number) (c .before .read .ensures)
+returns c = c .number .ensures ∙ ap (λ (r : Report). r .answer .number) (c .before .read .ensures)
 
 pub noppalerk-refusal-spec : {M : Type 1} → statement M
 noppalerk-refusal-spec = tie.close (tie.spec read-requires number-requires cast-result returns)

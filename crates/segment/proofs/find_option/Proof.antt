@@ -7,7 +7,7 @@ use Rattle.segment.specs.Options.{optionIn}
 use Rattle.segment.specs.Reading.{matching, shown, stepsOf}
 use Rattle.segment.proofs.ByOctet.{options-there}
 use Rattle.segment.proofs.Listed.{part-of-start}
-use Rattle.segment.proofs.Readable.{found-none, found-some, readable, start-is}
+use Rattle.segment.proofs.Readable.{answer-is, found-none, found-some, readable, start-is}
 use Rattle.segment.proofs.find_option.Statement.{statement}
 use Rattle.segment.proofs.find_option.Tie as tie
 
@@ -39,7 +39,7 @@ part-first-listed-end : tie.Need-part-first-listed-end
 part-first-listed-end c =
     let s = now (c .before .before .before .before .before .before .before .args .segment) in
     let r = c .before .before in
-    readable s (r .reading .given .0 .0) (sym (r .before .before .read .ensures) ∙ ap shown (r .reading .given .1)) .start-most
+    readable s (r .reading .given .0 .0) (answer-is (sym (r .before .before .read .ensures) ∙ ap shown (r .reading .given .1))) .start-most
 
 first-listed-requires : tie.Need-first-listed-requires
 first-listed-requires c κs = search needs
@@ -48,7 +48,7 @@ returns : tie.Need-returns
 returns c =
     let a = c .before .before .before .before .before .before .args in
     let refusal = c .before .enum-told .given in
-    rw (found-none (now (a .segment)) (now (a .kinds)) (refusal .0 .0) (sym (c .before .before .before .read .ensures) ∙ ap shown (refusal .1)))
+    rw (found-none (now (a .segment)) (now (a .kinds)) (refusal .0 .0) (refusal .0 .1 .0) (sym (c .before .before .before .read .ensures) ∙ ap shown (refusal .1)))
     (refl, refl, omega arith)
 
 returns-2 : tie.Need-returns-2
@@ -58,7 +58,7 @@ returns-2 c =
     let s = now (a .segment) in
     let kinds = now (a .kinds) in
     let whole = r .reading .given .0 .0 in
-    let read = sym (r .before .before .read .ensures) ∙ ap shown (r .reading .given .1) in
+    let read = answer-is (sym (r .before .before .read .ensures) ∙ ap shown (r .reading .given .1)) in
     rw (found-some s kinds whole read)
     (part-of-start (c .first-listed .result) (ptr (a .segment)) (optionIn (matching kinds) (stepsOf s))
     (rw (options-there s (whole .payload .start) (start-is s whole read)) at (c .first-listed .ensures)))

@@ -1,6 +1,7 @@
 -- Every call returns a sound record.
 -- Assumes nothing.
 use Prim.Native.Nat.{_-_}
+use native.Mathlib.Omega.{arith}
 use Rattle.connection.specs.Record.{Sound}
 use borrow.Author.Needs.{needs}
 use Rattle.bench.proofs.segments.make.Statement.{statement}
@@ -29,6 +30,9 @@ read-requires c κs = search needs
 
 enum-known-reading : tie.Need-enum-known-reading Inv-loop μ-loop
 enum-known-reading c = search needs
+
+own-steps-requires : tie.Need-own-steps-requires Inv-loop μ-loop
+own-steps-requires c κs = search needs
 
 refusal-requires : tie.Need-refusal-requires Inv-loop μ-loop
 refusal-requires c κs = search needs
@@ -79,7 +83,9 @@ loop-again-3 : tie.Need-loop-again-3 Inv-loop μ-loop
 loop-again-3 c = search needs
 
 loop-less-4 : tie.Need-loop-less-4 Inv-loop μ-loop
-loop-less-4 c = search needs
+loop-less-4 c =
+    let n = c .before .before .before .before .before .before .before .before .before .before .before in
+    omega (arith, n .next .ensures, n .before .loop-test .taken)
 
 loop-again-4 : tie.Need-loop-again-4 Inv-loop μ-loop
 loop-again-4 c = search needs
@@ -99,6 +105,7 @@ make-spec =
     part-requires
     read-requires
     enum-known-reading
+    own-steps-requires
     refusal-requires
     add-requires
     enum-known-reading-2

@@ -4,6 +4,7 @@ use mathlib.Core.Option.{Option·elim}
 use mathlib.Core.Path.{_≡_, sym, ap, subst, _∙_}
 use denote.Ref.{now}
 use Rattle.segment.specs.Reading as segment
+use Rattle.segment.proofs.Readable.{answer-is}
 use Rattle.connection.specs.Arriving.{arriving, shown}
 use Rattle.connection.proofs.Keeping.{SoundArrival, arriving-sound}
 use borrow.Author.Needs.{needs}
@@ -29,7 +30,7 @@ returns : tie.Need-returns
 unfolding arriving Option·elim
 returns c =
     let a = c .before .before .before .before .before .before .args in
-    let read = sym (c .before .before .before .before .read .ensures) ∙ ap segment.shown (c .before .before .reading .given .1) in
+    let read = answer-is (sym (c .before .before .before .before .read .ensures) ∙ ap segment.shown (c .before .before .reading .given .1)) in
     let is : shown (c .unchanged .result) ≡ arriving (a .self) (a .clock) (now (a .segment)) = rw read (c .unchanged .ensures) in
     (is, subst SoundArrival (sym is) (arriving-sound (a .self) (c .before .before .before .before .before .before .pre) (a .clock) (now (a .segment))))
 
@@ -37,7 +38,7 @@ returns-2 : tie.Need-returns-2
 unfolding arriving Option·elim
 returns-2 c =
     let a = c .before .before .before .before .before .before .args in
-    let read = sym (c .before .before .before .before .read .ensures) ∙ ap segment.shown (c .before .before .reading2 .given .1) in
+    let read = answer-is (sym (c .before .before .before .before .read .ensures) ∙ ap segment.shown (c .before .before .reading2 .given .1)) in
     let is : shown (c .arrive-read .result) ≡ arriving (a .self) (a .clock) (now (a .segment)) = rw read (c .arrive-read .ensures .0) in
     (is, subst SoundArrival (sym is) (arriving-sound (a .self) (c .before .before .before .before .before .before .pre) (a .clock) (now (a .segment))))
 

@@ -4,6 +4,7 @@ use mathlib.Core.Option.{Option·elim}
 use mathlib.Core.Path.{_≡_, sym, ap, subst, _∙_}
 use denote.Ref.{now}
 use Rattle.segment.specs.Reading.{shown}
+use Rattle.segment.proofs.Readable.{answer-is}
 use Rattle.connection.specs.Opening.{opening, shownOpen}
 use Rattle.connection.proofs.Keeping.{SoundOpening, opening-sound}
 use borrow.Author.Needs.{needs}
@@ -44,7 +45,7 @@ unfolding opening Option·elim
 returns-2 c =
     let a = c .before .before .before .before .before .before .before .before .args in
     let kept = sym (c .before .before .before .before .before .before .exceeds-limits .ensures) ∙ c .before .before .before .before .before .if1 .left in
-    let read = sym (c .before .before .before .before .read .ensures) ∙ ap shown (c .before .before .reading .given .1) in
+    let read = answer-is (sym (c .before .before .before .before .read .ensures) ∙ ap shown (c .before .before .reading .given .1)) in
     let is : shownOpen (c .refused2 .result) ≡ opening (a .own) (a .clock) (now (a .syn)) = rw (kept, read) (c .refused2 .ensures) in
     (is, subst SoundOpening (sym is) (opening-sound (a .own) (a .clock) (now (a .syn))))
 
@@ -53,7 +54,7 @@ unfolding opening Option·elim
 returns-3 c =
     let a = c .before .before .before .before .before .before .before .before .args in
     let kept = sym (c .before .before .before .before .before .before .exceeds-limits .ensures) ∙ c .before .before .before .before .before .if1 .left in
-    let read = sym (c .before .before .before .before .read .ensures) ∙ ap shown (c .before .before .reading2 .given .1) in
+    let read = answer-is (sym (c .before .before .before .before .read .ensures) ∙ ap shown (c .before .before .reading2 .given .1)) in
     let is : shownOpen (c .open-from .result) ≡ opening (a .own) (a .clock) (now (a .syn)) = rw (kept, read) (c .open-from .ensures) in
     (is, subst SoundOpening (sym is) (opening-sound (a .own) (a .clock) (now (a .syn))))
 
