@@ -13,7 +13,7 @@ use Rattle.laws.specs.Lists.{any, filter}
 use Rattle.laws.proofs.Choices.{either}
 use Rattle.laws.proofs.Lists.{filter-append, length-filter}
 use Rattle.segment.specs.Grammar.{Step, broken, end, isBroken, length-least, length-most, nop, padding, paddingRule, whole}
-use Rattle.segment.specs.Options.{faultAt, faultIn, isRepeated, isSkipped, isWrongLength, skippedIn, standsIn, stepPlace, upToFault}
+use Rattle.segment.specs.Options.{faultAt, faultIn, isRepeated, isWrongLength, standsIn, stepPlace, upToFault}
 use Rattle.segment.specs.Reading.{countedSteps, dataOffset, optionOctets, optionsRead, reading, stepsOf, stepsTaken}
 use Rattle.segment.proofs.Induction.{Steps, along-rules}
 use Rattle.segment.proofs.Numbers.{Given, faulty, given, offset-low, offset-past, readable, too-long, too-short}
@@ -52,20 +52,6 @@ few-steps = record {
       let fewer : length (drop n left) + n ≡ length left = omega (arith, length-drop n left, most) in
       (omega (arith, h .0, fewer, least), λ e same. omega (arith, h .1 e (omega (arith, same, fewer)), fewer, least));
 }
-
--- an option that is skipped has a length
-pub skipped-fewer : (header-end : ℕ) (steps : List Step) → skippedIn steps ≤ length (filter (hasLength header-end) steps)
-skipped-fewer header-end [] = omega arith
-skipped-fewer header-end (nop at ∷ later) = skipped-fewer header-end later
-skipped-fewer header-end (end at ∷ later) = skipped-fewer header-end later
-skipped-fewer header-end (broken at ∷ later) =
-    let rest = filter (hasLength header-end) later in
-    either (λ (l : List Step). skippedIn later ≤ length l) (ltb (at + 1) header-end) (broken at ∷ rest) rest
-    (λ _. omega (arith, skipped-fewer header-end later)) (λ _. skipped-fewer header-end later)
-skipped-fewer header-end (whole at octets ∷ later) =
-    let rest = filter isSkipped later in
-    either (λ (l : List Step). length l ≤ suc (length (filter (hasLength header-end) later))) (isSkipped (whole at octets)) (whole at octets ∷ rest) rest
-    (λ _. omega (arith, skipped-fewer header-end later)) (λ _. omega (arith, skipped-fewer header-end later))
 
 -- the steps that count are the first of them
 up-to-first : (before steps : List Step) → (rest : List Step) × (steps ≡ upToFault before steps ++ rest)

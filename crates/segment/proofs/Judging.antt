@@ -43,27 +43,21 @@ same-fault-at a b (whole at octets) e =
     let kind : ℕ = getD octets 0 0 in
     ap (λ (f : Found). cond (isWrongLength kind (length octets)) 5 (cond (isKnown kind && isFound f) 6 0)) (e .found-same (kind ∷ []))
 
-same-fault : (a b later : List Step) → SameOptions a b → faultIn a later ≡ faultIn b later
-unfolding faultIn
-same-fault a b [] e = refl
-same-fault a b (step ∷ later) e =
+same-faults : (a b later : List Step) → SameOptions a b → (faultIn a later ≡ faultIn b later) × (upToFault a later ≡ upToFault b later)
+unfolding faultIn upToFault
+same-faults a b [] e = (refl, refl)
+same-faults a b (step ∷ later) e =
     let here = same-fault-at a b step e in
-    let after = same-fault (a ++ (step ∷ [])) (b ++ (step ∷ [])) later (same-after a b (step ∷ []) e) in
-    λ i. cond (eqb (here i) 0) (after i) (some (record { number = here i; place = stepPlace step }))
-
-same-steps : (a b later : List Step) → SameOptions a b → upToFault a later ≡ upToFault b later
-unfolding upToFault
-same-steps a b [] e = refl
-same-steps a b (step ∷ later) e =
-    let here = same-fault-at a b step e in
-    let after = same-steps (a ++ (step ∷ [])) (b ++ (step ∷ [])) later (same-after a b (step ∷ []) e) in
-    λ i. step ∷ cond (eqb (here i) 0) (after i) []
+    let after = same-faults (a ++ (step ∷ [])) (b ++ (step ∷ [])) later (same-after a b (step ∷ []) e) in (
+      λ i. cond (eqb (here i) 0) (after .0 i) (some (record { number = here i; place = stepPlace step })),
+      λ i. step ∷ cond (eqb (here i) 0) (after .1 i) [],
+    )
 
 same-outcome : (a b : List Step) (k : ℕ) (later : List Step) (n : ℕ) (notes : List ℕ) → SameOptions a b → Outcome a k later n notes → Outcome b k later n notes
 same-outcome a b k later n notes e o = record {
-  fault-is = sym (same-fault a b later e) ∙ o .fault-is;
+  fault-is = sym (same-faults a b later e .0) ∙ o .fault-is;
   noted = λ z. same-noted (a ++ later) (b ++ later) notes (same-after a b later e) (o .noted z);
-  counted = o .counted ∙ ap (λ (l : List Step). k + length l) (same-steps a b later e);
+  counted = o .counted ∙ ap (λ (l : List Step). k + length l) (same-faults a b later e .1);
 }
 
 -- nothing is left

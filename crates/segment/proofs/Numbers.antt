@@ -61,43 +61,36 @@ none-more prior step later here pass (y ∷ before) x after e =
     ap (λ (z : Step). prior ++ (z ∷ before)) (sym (ap (headOr step) e)) ∙ sym (append-assoc prior (step ∷ []) before) in
     ap (λ (l : List Step). faultAt l x) joined ∙ pass before x after (ap tailOf e)
 
--- steps without fault leave it to the later ones
-passes : (prior earlier later : List Step) → NoneIn prior earlier → faultIn prior (earlier ++ later) ≡ faultIn (prior ++ earlier) later
-unfolding faultIn
-passes prior [] later pass = ap (λ (l : List Step). faultIn l later) (sym (append-nil prior))
+-- steps without fault leave it to the later ones, and count before those that do
+passes : (prior earlier later : List Step) → NoneIn prior earlier
+    → (faultIn prior (earlier ++ later) ≡ faultIn (prior ++ earlier) later)
+    × (upToFault prior (earlier ++ later) ≡ earlier ++ upToFault (prior ++ earlier) later)
+unfolding faultIn upToFault
+passes prior [] later pass =
+    let all = sym (append-nil prior) in
+    (ap (λ (l : List Step). faultIn l later) all, ap (λ (l : List Step). upToFault l later) all)
 passes prior (step ∷ earlier) later pass =
     let here : faultAt prior step ≡ 0 = none-here prior step earlier pass in
-    rw here (passes (prior ++ (step ∷ [])) earlier later (none-later prior step earlier pass)
-    ∙ ap (λ (l : List Step). faultIn l later) (append-assoc prior (step ∷ []) earlier))
+    let rest = passes (prior ++ (step ∷ [])) earlier later (none-later prior step earlier pass) in
+    let joined = append-assoc prior (step ∷ []) earlier in (
+      rw here (rest .0 ∙ ap (λ (l : List Step). faultIn l later) joined),
+      rw here (ap (λ (l : List Step). step ∷ l) (rest .1 ∙ ap (λ (l : List Step). earlier ++ upToFault l later) joined)),
+    )
 
-no-fault : (steps : List Step) → NoneIn [] steps → faultIn [] steps ≡ none
-unfolding faultIn
-no-fault steps pass = ap (faultIn []) (sym (append-nil steps)) ∙ passes [] steps [] pass
+no-fault : (steps : List Step) → NoneIn [] steps → (faultIn [] steps ≡ none) × (upToFault [] steps ≡ steps)
+unfolding faultIn upToFault
+no-fault steps pass =
+    let all = sym (append-nil steps) in
+    let passed = passes [] steps [] pass in
+    (ap (faultIn []) all ∙ passed .0, ap (upToFault []) all ∙ passed .1 ∙ append-nil steps)
 
 first-fault : (before : List Step) (step : Step) (after : List Step) (n : ℕ) → NoneIn [] before → faultAt before step ≡ n → (n ≡ 0 → ⊥)
-    → faultIn [] (before ++ (step ∷ after)) ≡ some (record { number = n; place = stepPlace step })
-unfolding faultIn
+    → (faultIn [] (before ++ (step ∷ after)) ≡ some (record { number = n; place = stepPlace step }))
+    × (upToFault [] (before ++ (step ∷ after)) ≡ before ++ (step ∷ []))
+unfolding faultIn upToFault
 first-fault before step after n pass e given =
-    passes [] before (step ∷ after) pass ∙ rw e (simp (ne-eqb n 0 given))
-
--- steps without fault count, as the later ones do up to theirs
-passes-steps : (prior earlier later : List Step) → NoneIn prior earlier → upToFault prior (earlier ++ later) ≡ earlier ++ upToFault (prior ++ earlier) later
-unfolding upToFault
-passes-steps prior [] later pass = ap (λ (l : List Step). upToFault l later) (sym (append-nil prior))
-passes-steps prior (step ∷ earlier) later pass =
-    let here : faultAt prior step ≡ 0 = none-here prior step earlier pass in
-    rw here (ap (λ (l : List Step). step ∷ l) (passes-steps (prior ++ (step ∷ [])) earlier later (none-later prior step earlier pass)
-    ∙ ap (λ (l : List Step). earlier ++ upToFault l later) (append-assoc prior (step ∷ []) earlier)))
-
-pub all-steps : (steps : List Step) → NoneIn [] steps → upToFault [] steps ≡ steps
-unfolding upToFault
-all-steps steps pass = ap (upToFault []) (sym (append-nil steps)) ∙ passes-steps [] steps [] pass ∙ append-nil steps
-
-first-steps : (before : List Step) (step : Step) (after : List Step) (n : ℕ) → NoneIn [] before → faultAt before step ≡ n → (n ≡ 0 → ⊥)
-    → upToFault [] (before ++ (step ∷ after)) ≡ before ++ (step ∷ [])
-unfolding upToFault
-first-steps before step after n pass e given =
-    passes-steps [] before (step ∷ after) pass ∙ rw e (simp (ne-eqb n 0 given))
+    let passed = passes [] before (step ∷ after) pass in
+    (passed .0 ∙ rw e (simp (ne-eqb n 0 given)), passed .1 ∙ rw e (simp (ne-eqb n 0 given)))
 
 -- the first step with a fault, if there is one
 FirstFault : List Step → List Step → Type 0
@@ -161,13 +154,14 @@ module _ (s : List ℕ) where
   given-only n place steps (faulty p before step after m stands pass j given) =
       let clean = none-judged before pass in
       let wrong = judged-only before step n j in
-      let is = refused-if s p (record { number = n; place = stepPlace step }) (ap (faultIn []) stands ∙ first-fault before step after n clean wrong given) in
-      let counted = ap length (steps-if s p ∙ ap (upToFault []) stands ∙ first-steps before step after n clean wrong given) ∙ length-append before (step ∷ []) in
+      let fault = first-fault before step after n clean wrong given in
+      let is = refused-if s p (record { number = n; place = stepPlace step }) (ap (faultIn []) stands ∙ fault .0) in
+      let counted = ap length (steps-if s p ∙ ap (upToFault []) stands ∙ fault .1) ∙ length-append before (step ∷ []) in
       let a = answered is counted in
       (a .0, a .1 ∙ ap some (place-counted s before step after stands), a .2)
   given-only n place steps (readable p pass) =
-      let clean = none-judged (stepsOf s) pass in
-      answered (read-if s p (no-fault (stepsOf s) clean)) (ap length (steps-if s p ∙ all-steps (stepsOf s) clean))
+      let clean = no-fault (stepsOf s) (none-judged (stepsOf s) pass) in
+      answered (read-if s p (clean .0)) (ap length (steps-if s p ∙ clean .1))
 
   -- some number, some place and some steps
   abbrev SomeGiven : Type 0

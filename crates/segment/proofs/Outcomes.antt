@@ -7,7 +7,7 @@ use lib.ListN.{drop, getD, length, take}
 use borrow.Author.Tests.{ne-eqb}
 use Rattle.segment.specs.Grammar.{Step, isBroken, optionRule, paddingRule, whole}
 use Rattle.segment.specs.Options.{isFound, isKnown, isRepeated, isWrongLength, knownKinds, lengthsOf, optionOf, standsIn}
-use Rattle.segment.specs.Internal.{Lists, Noted, Outcome}
+use Rattle.segment.specs.Internal.{Answers, Noted, Outcome}
 use Rattle.segment.proofs.ByOctet.{kind-kept, length-kept, option-broken, option-whole, padding-end, padding-nop, padding-option, padding-past}
 use Rattle.segment.proofs.Judging.{outcome-broken, outcome-end, outcome-none, outcome-nop, outcome-repeated, outcome-whole, outcome-wrong}
 use Rattle.segment.proofs.Noting.{noted-repeated, placed, placed-noted, placed-steps, skipping, skipping-noted, skipping-steps}
@@ -75,7 +75,7 @@ module _ (before : List Step) (k : ℕ) (header : List ℕ) (at : ℕ) where
 
     -- an option without fault, noted: an outcome on the octets after it is one on the option too
     at-whole : isWrongLength kind n ≡ false → isRepeated before kind ≡ false → (notes : List ℕ) → Noted (before ++ (whole at octets ∷ [])) notes
-        → getD notes 9 0 ≡ k + 1 → (r : ℕ) (later : List ℕ) → Lists (paddingRule (at + n) (drop (at + n) header)) notes r later → ByOption r later
+        → getD notes 9 0 ≡ k + 1 → (r : ℕ) (later : List ℕ) → Answers (paddingRule (at + n) (drop (at + n) header)) notes r later → ByOption r later
     at-whole w s notes p count r later after =
         let steps : List Step = before ++ (whole at octets ∷ []) in
         let rest = paddingRule (at + n) (drop (at + n) header) in
@@ -84,7 +84,7 @@ module _ (before : List Step) (k : ℕ) (header : List ℕ) (at : ℕ) where
         (outcome-whole before k at octets rest r later (rw (kind-kept header at e, length-kept header at e) w) (rw (kind-kept header at e) s) o)
 
     module _ (notes : List ℕ) (size : length notes ≡ 12) (p : Noted before notes) (past : 0 < at) (count : getD notes 9 0 ≡ k + 1) (r : ℕ) (later : List ℕ) where
-      pub at-skipped : isKnown kind ≡ false → Lists (paddingRule (at + n) (drop (at + n) header)) (skipping notes size) r later → ByOption r later
+      pub at-skipped : isKnown kind ≡ false → Answers (paddingRule (at + n) (drop (at + n) header)) (skipping notes size) r later → ByOption r later
       at-skipped unknown after =
           let passes = unknown-passes kind n unknown in
           let is = kind-kept header at e in
@@ -92,7 +92,7 @@ module _ (before : List Step) (k : ℕ) (header : List ℕ) (at : ℕ) where
           (skipping-steps notes size ∙ count) r later after
 
       pub at-known : (known : isKnown kind ≡ true) → isWrongLength kind n ≡ false → getD notes kind 0 ≡ 0
-          → Lists (paddingRule (at + n) (drop (at + n) header)) (placed notes size kind at known) r later → ByOption r later
+          → Answers (paddingRule (at + n) (drop (at + n) header)) (placed notes size kind at known) r later → ByOption r later
       at-known known w none after =
           let is = kind-kept header at e in
           let new : isRepeated before kind ≡ false = sym (noted-repeated before notes kind known p) ∙ rw none refl in

@@ -3,16 +3,18 @@
 use mathlib.Core.Bool.{Bool, true, false, cond, not, true≢false}
 use mathlib.Core.List.{List, [], _∷_}
 use mathlib.Core.Path.{_≡_, refl, sym, ap, subst, _∙_}
-use Prim.Native.Nat.{ℕ, _+_, _≤_, _<_}
+use Prim.Native.Nat.{ℕ, suc, _+_, _≤_, _<_}
 use native.Mathlib.Numerals.{add-one}
 use native.Mathlib.Omega.{arith}
+use lib.Dec.{ltb}
 use lib.ListN.{getD, length}
 use Rattle.laws.specs.Lists.{filter}
+use Rattle.laws.proofs.Choices.{either}
 use Rattle.segment.specs.Grammar.{Step, broken, end, nop, whole}
 use Rattle.segment.specs.Options.{isKnown, isSkipped, skippedIn}
 use Rattle.segment.specs.Reading.{optionOctets, readAs, reading, segmentOf, stepsOf}
 use Rattle.segment.specs.declared.Segment.{Segment}
-use Rattle.segment.proofs.Bounds.{few-steps, octets-most, skipped-fewer}
+use Rattle.segment.proofs.Bounds.{few-steps, hasLength, octets-most}
 use Rattle.segment.proofs.Faults.{Known, known-only, known-not, right-known}
 use Rattle.segment.proofs.Induction.{along-rules}
 use Rattle.segment.proofs.Readable.{fields-are}
@@ -52,6 +54,20 @@ counted-only steps n (after-known at octets {later} known rest) =
     simp (right-known _ (known .0) (known .1) .0) (counted-only later n rest)
 counted-only steps n (one-more at octets {later} {n = m} unknown rest) =
     simp (known-not _ unknown) (omega (arith, counted-only later m rest))
+
+-- an option that is skipped has a length
+skipped-fewer : (header-end : ℕ) (steps : List Step) → skippedIn steps ≤ length (filter (hasLength header-end) steps)
+skipped-fewer header-end [] = omega arith
+skipped-fewer header-end (nop at ∷ later) = skipped-fewer header-end later
+skipped-fewer header-end (end at ∷ later) = skipped-fewer header-end later
+skipped-fewer header-end (broken at ∷ later) =
+    let rest = filter (hasLength header-end) later in
+    either (λ (l : List Step). skippedIn later ≤ length l) (ltb (at + 1) header-end) (broken at ∷ rest) rest
+    (λ _. omega (arith, skipped-fewer header-end later)) (λ _. skipped-fewer header-end later)
+skipped-fewer header-end (whole at octets ∷ later) =
+    let rest = filter isSkipped later in
+    either (λ (l : List Step). length l ≤ suc (length (filter (hasLength header-end) later))) (isSkipped (whole at octets)) (whole at octets ∷ rest) rest
+    (λ _. omega (arith, skipped-fewer header-end later)) (λ _. omega (arith, skipped-fewer header-end later))
 
 -- of a segment that is read
 module _ (s : List ℕ) (w : Segment) (e : reading s ≡ readAs w) where

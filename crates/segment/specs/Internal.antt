@@ -44,8 +44,8 @@ pub record Outcome (before : List Step) (earlier : ℕ) (steps : List Step) (num
   pub counted : getD notes 9 0 ≡ earlier + length (upToFault before steps)
 
 -- a rule answers a number and leaves notes, from notes that are those of the steps before
-abbrev pub Lists : List Step → List ℕ → ℕ → List ℕ → Type 0
-Lists steps notes number after = (before : List Step) → Noted before notes → Outcome before (getD notes 9 0) steps number after
+abbrev pub Answers : List Step → List ℕ → ℕ → List ℕ → Type 0
+Answers steps notes number after = (before : List Step) → Noted before notes → Outcome before (getD notes 9 0) steps number after
 
 -- the first place that has no NOP: each octet before it is one step
 pub record AfterNops (header : List ℕ) (from at : ℕ) : Type 0 where

@@ -6,7 +6,7 @@ ghost use Prim.Native.Nat.{_≤_, _<_};
 ghost use lib.ListN.{drop, length};
 ghost use Rattle.segment.specs.Grammar.{isBroken, optionRule, paddingRule};
 ghost use Rattle.segment.specs.Options.{isKnown, isWrongLength};
-ghost use Rattle.segment.specs.Internal.{AfterNops, Lists, Room};
+ghost use Rattle.segment.specs.Internal.{AfterNops, Answers, Room};
 use super::kinds::END;
 use super::kinds::MSS;
 use super::kinds::NOP;
@@ -21,7 +21,7 @@ use super::notes::STEPS;
 // Passes NOPs from `from` on and ends the list at kind 0 or at the header's end.
 pub fn padding_rule(header: &[u8], from: usize, notes: &mut [u8]) -> u8
     requires { ⌜ (0 < from) × Room (now notes) from × (from ≤ length (now header)) × (length (now header) ≤ 60) ⌝ }
-    ensures { λ r. ⌜ Lists (paddingRule from (drop from (now (header .entry)))) (now (notes .entry)) r (now (notes .exit)) ⌝ }
+    ensures { λ r. ⌜ Answers (paddingRule from (drop from (now (header .entry)))) (now (notes .entry)) r (now (notes .exit)) ⌝ }
 {
     let at = after_nops(header, from);
     notes[STEPS] += (at - from) as u8;
@@ -53,7 +53,7 @@ fn after_nops(header: &[u8], from: usize) -> usize
 // Reads one kind, length and body, and passes what is left to the padding rule: E4, E5, E6 in this order.
 fn option_rule(header: &[u8], at: usize, notes: &mut [u8]) -> u8
     requires { ⌜ (0 < at) × Room (now notes) at × (at < length (now header)) × (length (now header) ≤ 60) ⌝ }
-    ensures { λ r. ⌜ Lists (optionRule at (drop at (now (header .entry)))) (now (notes .entry)) r (now (notes .exit)) ⌝ }
+    ensures { λ r. ⌜ Answers (optionRule at (drop at (now (header .entry)))) (now (notes .entry)) r (now (notes .exit)) ⌝ }
 {
     notes[STEPS] += 1;
     notes[LAST] = at as u8;

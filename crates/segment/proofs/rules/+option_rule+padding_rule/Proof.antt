@@ -13,7 +13,7 @@ use borrow.Fn.Kinds.{In}
 use borrow.Fn.PlainCycle.{Measures, is, falls, and}
 use Rattle.segment.specs.Grammar.{isBroken, optionRule, paddingRule}
 use Rattle.segment.specs.Options.{isKnown, isWrongLength}
-use Rattle.segment.specs.Internal.{Lists}
+use Rattle.segment.specs.Internal.{Answers}
 use Rattle.segment.proofs.ByOctet.{octets-least, octets-most, to-the-end}
 use Rattle.segment.proofs.Noting.{known-most, room-placed, room-skipping, room-stepped, started, started-last, started-noted, started-size, started-skipped, started-steps, stepped, stepped-noted, stepped-size, stepped-steps}
 use Rattle.segment.proofs.Outcomes.{at-broken, at-end, at-known, at-option, at-past, at-repeated, at-skipped, at-wrong}
@@ -237,8 +237,8 @@ with-place : (t : ℕ) (c : option-rule-lts.Else4 (option-claims t) (option-rule
     let header = now (s .args .header) in
     let next = s .args .at + getD header (s .args .at + 1) 0 in
     let notes = started (now (s .args .notes)) (s .pre .1 .1 .octets) (s .args .at) in
-    (r : ℕ) (later : List ℕ) → Lists (paddingRule next (drop next header)) (set notes (getD header (s .args .at) 0) (s .args .at)) r later
-    → Lists (optionRule (s .args .at) (drop (s .args .at) header)) (now (s .args .notes)) r later
+    (r : ℕ) (later : List ℕ) → Answers (paddingRule next (drop next header)) (set notes (getD header (s .args .at) 0) (s .args .at)) r later
+    → Answers (optionRule (s .args .at) (drop (s .args .at) header)) (now (s .args .notes)) r later
 with-place t c r later after before p =
     let s = c .before .before .before .before .before .before .before .before .before .before .before .before .before .before in
     let a = s .args in
