@@ -4,7 +4,7 @@ use crate::options::{BlocksInPlace, Timestamps};
 use crate::ranges::HeldRanges;
 use crate::refusal::Refusal;
 use crate::segment::Segment;
-use crate::serial::{Seq, Stamp};
+use crate::serial::{Seq, Stamp, HALF};
 use crate::timer::Timer;
 use crate::verdict::{Judged, Part, Reason, Rejection, ReportedBlocks, Taken, Verdict};
 
@@ -47,6 +47,8 @@ pub struct Connection {
     pub snd_wnd: u32,
     pub snd_wl1: Seq,
     pub snd_wl2: Seq,
+    /// The largest SND.WND that the record ever had: MAX.SND.WND of RFC 5961.
+    pub max_snd_wnd: u32,
     pub timestamps: bool,
     pub ts_recent: Stamp,
     pub ts_recent_clock: u64,
@@ -81,6 +83,8 @@ impl Connection {
         }
         let (rcv_shift, snd_shift) = agreed_shifts(opening.shift, syn.options.scale);
         let stamp = syn.options.timestamps.filter(|_| opening.timestamps);
+        // The window of a SYN is never scaled.
+        let snd_wnd = u32::from(syn.window);
         let connection = Connection {
             rcv_nxt: syn.seq.plus(1),
             rcv_wnd: opening.window,
@@ -89,10 +93,10 @@ impl Connection {
             snd_shift,
             snd_una: if acknowledged { first } else { opening.iss },
             snd_nxt: first,
-            // The window of a SYN is never scaled.
-            snd_wnd: u32::from(syn.window),
+            snd_wnd,
             snd_wl1: syn.seq,
             snd_wl2: if acknowledged { syn.ack } else { opening.iss },
+            max_snd_wnd: snd_wnd,
             timestamps: stamp.is_some(),
             ts_recent: stamp.map_or(Stamp(0), |stamp| stamp.value),
             ts_recent_clock: opening.clock,
@@ -173,9 +177,7 @@ impl Connection {
         self.check_timestamp(clock, segment)?;
         self.check_window(segment)?;
         self.check_flags(segment)?;
-        if self.snd_nxt.before(segment.ack) {
-            return Err(Rejection::DropWithAck(Reason::AckOfUnsent));
-        }
+        self.check_ack(segment.ack)?;
         let part = self.new_part(segment);
         if !self.has_room(&part) {
             return Err(Rejection::DropWithAck(Reason::NoRoom));
@@ -219,6 +221,23 @@ impl Connection {
         } else {
             Ok(())
         }
+    }
+
+    fn check_ack(&self, ack: Seq) -> Result<(), Rejection> {
+        if self.snd_nxt.before(ack) {
+            Err(Rejection::DropWithAck(Reason::AckOfUnsent))
+        } else if self.is_too_old(ack) {
+            Err(Rejection::DropWithAck(Reason::AckTooOld))
+        } else {
+            Ok(())
+        }
+    }
+
+    /// Whether an ACK is more octets before SND.UNA than the largest window that the peer ever gave us.
+    fn is_too_old(&self, ack: Seq) -> bool {
+        let behind = ack.offset_of(self.snd_una);
+        // 2^31 away counts as before, though neither number is before the other there.
+        self.max_snd_wnd < behind && behind <= HALF
     }
 
     /// Whether a TSval is not before TS.Recent, or TS.Recent is outdated.
@@ -307,6 +326,7 @@ impl Connection {
         let is_new = acked > 0 && acked <= self.snd_una.offset_of(self.snd_nxt);
         if (is_new || acked == 0) && self.updates_window(segment) {
             self.snd_wnd = u32::from(segment.window) << self.snd_shift;
+            self.max_snd_wnd = self.max_snd_wnd.max(self.snd_wnd);
             self.snd_wl1 = segment.seq;
             self.snd_wl2 = segment.ack;
         }

@@ -14,7 +14,7 @@ const POSSIBLE: [(&str, &[u8]); 8] = [
     (
         "arrive",
         &[
-            0, 1, 2, 3, 4, 5, 6, 8, 21, 22, 23, 24, 25, 26, 27, 28, 29, 30,
+            0, 1, 2, 3, 4, 5, 6, 8, 21, 22, 23, 24, 25, 26, 27, 28, 29, 30, 31,
         ],
     ),
     ("sent", &[0, 12]),
@@ -102,6 +102,12 @@ impl Counts {
     pub fn span(&self, name: &'static str, number: u8) -> Option<(u8, u8)> {
         let tally = self.counts.get(&(name, Outcome::Number(number)));
         tally.and_then(|tally| tally.span)
+    }
+
+    /// How often a call gave a number.
+    pub fn count(&self, name: &'static str, number: u8) -> u64 {
+        let tally = self.counts.get(&(name, Outcome::Number(number)));
+        tally.map_or(0, |tally| tally.count)
     }
 
     /// The numbers of steps, ascending, with which reading gave a number.
@@ -269,6 +275,8 @@ mod tests {
         }
         Call::Read { segment: &[] }.encode(&mut script);
         let counts = Counts::of(&script);
+        assert_eq!(counts.count("read", 4), 2);
+        assert_eq!(counts.count("read", 5), 0);
         assert_eq!(counts.span("read", 0), Some((0, 2)));
         assert_eq!(counts.span("read", 4), Some((21, 22)));
         assert_eq!(counts.span("read", 1), None);

@@ -267,7 +267,7 @@ impl Display for Record<'_> {
         let connection = self.0;
         write!(
             f,
-            "{} {} {} {} {} {} {} {} {} {} {} {} {} {} {} {} {} {}",
+            "{} {} {} {} {} {} {} {} {} {} {} {} {} {} {} {} {} {} {}",
             connection.rcv_nxt.0,
             connection.rcv_wnd,
             connection.last_ack_sent.0,
@@ -286,6 +286,7 @@ impl Display for Record<'_> {
             connection.mss,
             Ranges(connection.held.as_slice().iter().copied()),
             TimerFields(&connection.timer),
+            connection.max_snd_wnd,
         )
     }
 }
@@ -361,6 +362,27 @@ mod tests {
         segment[13] = 0x10;
         let line = play_calls(&[Call::Read { segment: &segment }]);
         assert_eq!(line, "read 0 0 0 0 0 16 0 0 - - 0 - - 0 20 1 0 0\n");
+    }
+
+    #[test]
+    fn a_record_line_ends_in_the_largest_send_window() {
+        let segment = &syn().window(50).build();
+        let mut calls = vec![Call::Open {
+            opening: opening(),
+            segment,
+        }];
+        let segments = [60, 20].map(|window| data(NEXT, 0).window(window).build());
+        calls.extend(segments.iter().map(|segment| Call::Arrive {
+            clock: CLOCK,
+            segment,
+        }));
+        let expected = "open 0 0\n\
+                        record 5000 65535 5000 0 0 1001 1001 50 4999 1001 0 0 10000 0 0 536 0 0 0 0 1000 50\n\
+                        arrive 0 0 0 0 0 0\n\
+                        record 5000 65535 5000 0 0 1001 1001 60 5000 1001 0 0 10000 0 0 536 0 0 0 0 1000 60\n\
+                        arrive 0 0 0 0 0 0\n\
+                        record 5000 65535 5000 0 0 1001 1001 20 5000 1001 0 0 10000 0 0 536 0 0 0 0 1000 60\n";
+        assert_eq!(play_calls(&calls), expected);
     }
 
     /// The lines, but for the record's, about segments with these options: read, opened from, arriving.

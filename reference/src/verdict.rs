@@ -38,6 +38,7 @@ pub enum Reason {
     NoAck = 28,
     AckOfUnsent = 29,
     NoRoom = 30,
+    AckTooOld = 31,
 }
 
 const TAKE: u8 = 0;

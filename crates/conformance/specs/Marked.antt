@@ -72,7 +72,7 @@ own = record {
 
 -- the record that a SYN with these options opens at clock 0; its SEQ is 4999, so RCV.NXT is 5000
 opened : List ℕ → Connection
-opened options = opening own 0 (cases.octets 4999 0 2 8192 options 0) .connection
+opened options = opening own 0 (cases.octets 4999 0 2 9 options 0) .connection
 
 -- SACK-permitted, NOP, NOP
 permitted : List ℕ
@@ -134,7 +134,7 @@ unfolding sendFields scaling segment at own opened permitted optionOctets distan
     isBroken padding paddingRule options.faultAt options.faultIn options.isRepeated options.isWrongLength options.lengthsOf
     options.oneToFour options.optionIn options.optionsOf options.standsIn optionsRead reading segmentOf exceedLimits inForce shiftsInForce
     heldOf isOutOfOrder joined leftOf meets noRoom rangeOf rangesAfter rangesOf rightOf taking.advanced taking.holding taking.taken
-    receive.acceptable receive.lacksRoom receive.newPart receive.opened send.opened send.isNew send.acknowledged send.isCurrent send.isLater
+    receive.acceptable receive.lacksRoom receive.newPart receive.opened send.opened send.isTooOld send.isNew send.acknowledged send.isCurrent send.isLater
     send.updatesWindow send.windowed send.taken isNotSyn isWrongAck opening openingFrom recordFrom recordWith timestamps.opened
     timestamps.isOld timestamps.isMissing rows fedBy timestamps.isRecorded recordAfter timestamps.taken arriving arrivingRead judged settled takenBy
     writing.headerWritten writing.mssWritten writing.timestampsWritten writing.scaleWritten writing.blocksWritten writing.sackWritten

@@ -1,34 +1,31 @@
 -- Every operation gives back a sound record. Assumes nothing.
 use mathlib.Core.List.{List}
-use mathlib.Core.Option.{none}
 use Prim.Native.Nat.{ℕ}
 use native.Mathlib.Omega.{arith}
-use lib.Dec.{ltb}
 use Rattle.serial.specs.Serial.{movedBy}
+use Rattle.serial.proofs.Offset.{offset-self}
 use Rattle.receive.proofs.Opening as opening-side
 use Rattle.receive.proofs.Taken as receive-side
 use Rattle.rto.specs.Calls.{expiry}
 use Rattle.rto.proofs.Sound.{sound-called, sound-new, sound-run}
-use Rattle.segment.specs.Reading.{reading}
 use Rattle.segment.specs.declared.Segment.{Segment}
 use Rattle.send.proofs.Sound as send-side
 use Rattle.connection.specs.declared.Connection.{Connection}
 use Rattle.connection.specs.declared.Setup.{Setup}
-use Rattle.connection.specs.Numbers.{Decision}
 use Rattle.connection.specs.Record.{Sound, blank}
-use Rattle.connection.specs.Opening.{OpeningAnswer, ackFieldsOf, exceedsLimits, isNotSyn, isWrongAck, opening, openingFrom, openingRead, recordFrom, recordWith, refusedOpening}
-use Rattle.connection.specs.Verdict.{decided, rows}
+use Rattle.connection.specs.Opening.{OpeningAnswer, ackFieldsOf, opening, openingRead, recordFrom, recordWith}
 use Rattle.connection.specs.Taking.{fedBy, recordAfter}
-use Rattle.connection.specs.Arriving.{Arrival, arriving, arrivingRead, isTake, judged, settled, takenBy}
+use Rattle.connection.specs.Arriving.{Arrival, arriving, arrivingRead}
 use Rattle.connection.specs.Operations.{CallAnswer, acknowledged, expired, sent, windowOpened}
-use Rattle.laws.proofs.Choices.{either, if-some}
+use Rattle.connection.specs.Calls.{Incoming, arrived, openedBy, read, unread}
+use Rattle.connection.proofs.Incoming.{arrived-cases, opening-cases}
 
 -- opening
 pub blank-sound : Sound blank
 unfolding blank
 blank-sound = record {
   receive-sound = opening-side.opened-sound 0 0 0 (omega arith);
-  send-sound = record { shift-most = omega arith };
+  send-sound = record { shift-most = omega arith; window-most = omega arith; outstanding-most = omega (arith, offset-self 0) };
   timer-sound = sound-new;
 }
 
@@ -36,7 +33,7 @@ abbrev pub SoundOpening : OpeningAnswer → Type 0
 SoundOpening a = Sound (a .connection)
 
 module _ (own : Setup) (clock : ℕ) where
-  record-sound : (syn : Segment) → Sound (recordFrom own clock syn)
+  pub record-sound : (syn : Segment) → Sound (recordFrom own clock syn)
   unfolding recordFrom recordWith
   record-sound syn = record {
     receive-sound = opening-side.opened-sound (movedBy (syn .seq .0) 1) (own .window) _ (omega arith);
@@ -44,24 +41,14 @@ module _ (own : Setup) (clock : ℕ) where
     timer-sound = sound-new;
   }
 
-  opening-from-sound : (syn : Segment) → Sound (openingFrom own clock syn .connection)
-  unfolding openingFrom
-  opening-from-sound syn =
-      either SoundOpening (isNotSyn syn) (refusedOpening 10 none) _ (λ _. blank-sound)
-      (λ _. either SoundOpening (isWrongAck (own .iss .0) syn) (refusedOpening 11 none) _ (λ _. blank-sound) (λ _. record-sound syn))
+  opened-sound : (i : Incoming) → Sound (openedBy own clock i .connection)
+  opened-sound i = opening-cases Sound blank-sound own clock i (λ syn _. record-sound syn)
 
   pub opening-read-sound : (syn : Segment) → Sound (openingRead own clock syn .connection)
-  unfolding openingRead
-  opening-read-sound syn =
-      either SoundOpening (exceedsLimits own) (refusedOpening 9 none) _ (λ _. blank-sound) (λ _. opening-from-sound syn)
+  opening-read-sound syn = opened-sound (read syn)
 
   pub opening-sound : (octets : List ℕ) → Sound (opening own clock octets .connection)
-  unfolding opening
-  opening-sound octets =
-      either SoundOpening (exceedsLimits own) (refusedOpening 9 none) _ (λ _. blank-sound)
-      (λ _.
-      if-some SoundOpening (reading octets .fields) (refusedOpening (reading octets .number) (reading octets .place)) (openingFrom own clock) blank-sound
-      opening-from-sound)
+  opening-sound octets = opened-sound (unread octets)
 
 abbrev pub SoundArrival : Arrival → Type 0
 SoundArrival a = Sound (a .connection)
@@ -79,19 +66,14 @@ module _ (k : Connection) (h : Sound k) where
     timer-sound = sound-run (fedBy k clock s) (k .timer) (h .timer-sound);
   }
 
-  settled-sound : (clock : ℕ) (s : Segment) (d : Decision) → Sound (settled k clock s d .connection)
-  unfolding settled takenBy
-  settled-sound clock s d =
-      either SoundArrival (isTake (d .action)) _ _ (λ _. search (record-after-sound clock s)) (λ _. search (h .receive-sound))
+  pub arrived-sound : (clock : ℕ) (i : Incoming) → Sound (arrived k clock i .connection)
+  arrived-sound clock i = arrived-cases Sound k h clock i (λ s _. record-after-sound clock s)
 
   pub arriving-read-sound : (clock : ℕ) (s : Segment) → Sound (arrivingRead k clock s .connection)
-  unfolding arrivingRead judged
-  arriving-read-sound clock s =
-      either SoundArrival (ltb clock (k .timestamping .since)) _ _ (λ _. h) (λ _. settled-sound clock s (decided (rows k clock s)))
+  arriving-read-sound clock s = arrived-sound clock (read s)
 
   pub arriving-sound : (clock : ℕ) (octets : List ℕ) → Sound (arriving k clock octets .connection)
-  unfolding arriving
-  arriving-sound clock octets = if-some SoundArrival (reading octets .fields) _ (arrivingRead k clock) h (arriving-read-sound clock)
+  arriving-sound clock octets = arrived-sound clock (unread octets)
 
   pub sent-sound : (n : ℕ) → Sound (sent k n .connection)
   unfolding sent

@@ -9,3 +9,5 @@ pub mod Changes
 pub mod Keeping
 pub mod Edge
 pub mod Runs
+pub mod Largest
+pub mod Rfc5961

@@ -148,6 +148,7 @@ pub record Opens (own : Setup) (clock : ℕ) (syn : Segment) (force : InForce) (
   pub una-with-ack : syn .flags .ack ≡ true → k .send .una .0 ≡ (own .iss .0 + 1) % 2 ^ 32
   pub una-without : syn .flags .ack ≡ false → k .send .una .0 ≡ own .iss .0
   pub snd-window : k .send .window ≡ syn .window
+  pub snd-largest : k .send .largest ≡ syn .window
   pub wl1 : k .send .wl1 ≡ syn .seq
   pub wl2-with-ack : syn .flags .ack ≡ true → k .send .wl2 .0 ≡ syn .ack .0
   pub wl2-without : syn .flags .ack ≡ false → k .send .wl2 .0 ≡ own .iss .0
@@ -185,6 +186,7 @@ module _ (own : Setup) (clock : ℕ) (syn : Segment) where
         una-with-ack = ap (λ b. cond b ((own .iss .0 + 1) % 2 ^ 32) (own .iss .0));
         una-without = ap (λ b. cond b ((own .iss .0 + 1) % 2 ^ 32) (own .iss .0));
         snd-window = refl;
+        snd-largest = refl;
         wl1 = refl;
         wl2-with-ack = ap (λ b. cond b (syn .ack .0) (own .iss .0));
         wl2-without = ap (λ b. cond b (syn .ack .0) (own .iss .0));

@@ -1,14 +1,15 @@
--- The rows of the table as document 01 lists them: numbers and answers in its order, and each condition by its number. Assumes nothing.
+-- The rows of the table as document 01 lists them, with document 02's 31 directly after 29: numbers and answers in this order, and each
+-- condition by its number. Assumes nothing.
 use mathlib.Core.Bool.{Bool, true, false, not, _&&_, and-false}
 use mathlib.Core.List.{List, [], _∷_, map}
 use mathlib.Core.Logic.{_↔_, Iff·rfl}
 use mathlib.Core.Path.{_≡_, refl}
-use Prim.Native.Nat.{ℕ, _<_}
+use Prim.Native.Nat.{ℕ, _^_, _<_, _≤_}
 use lib.Dec.{eqb, ltb}
 use lib.ListN.{length}
 use Rattle.laws.specs.Lists.{any}
 use Rattle.laws.proofs.Tests.{below, both, equal, holds-not}
-use Rattle.serial.specs.Serial.{isBefore}
+use Rattle.serial.specs.Serial.{isBefore, offsetOf}
 use Rattle.serial.specs.declared.Range.{Range}
 use Rattle.serial.specs.declared.Stamp.{Stamp}
 use Rattle.receive.specs.Ranges.{isOutOfOrder, meets, noRoom, rangesOf}
@@ -16,11 +17,12 @@ use Rattle.receive.specs.Window.{acceptable, lacksRoom, newPart}
 use Rattle.receive.specs.declared.Part.{Part}
 use Rattle.segment.specs.declared.Segment.{Segment}
 use Rattle.segment.specs.declared.Timestamps.{Timestamps}
+use Rattle.send.proofs.AckRange.{too-old-exactly}
 use Rattle.timestamps.specs.Timestamps.{isMissing, isOld, outdated, valueBefore}
 use Rattle.connection.specs.declared.Connection.{Connection}
 use Rattle.connection.specs.declared.Reason.{Reason}
 use Rattle.connection.specs.declared.Verdict.{Verdict}
-use Rattle.connection.specs.Numbers.{Action, dropSilent, dropWithAck, reset, take, verdictOf}
+use Rattle.connection.specs.Numbers.{Action, dropSilent, dropWithAck, reasonNumber, reset, take, verdictOf}
 use Rattle.connection.specs.Verdict.{Row, rows}
 use Rattle.connection.proofs.Table.{condition}
 
@@ -28,6 +30,13 @@ use Rattle.connection.proofs.Table.{condition}
 pub verdicts-named : (verdictOf Verdict.Take ≡ record { number = 0; action = take }) × (verdictOf Verdict.Reset ≡ record { number = 25; action = reset })
     × ((why : Reason) → verdictOf (Verdict.Silent why) .action ≡ dropSilent) × ((why : Reason) → verdictOf (Verdict.WithAck why) .action ≡ dropWithAck)
 verdicts-named = (refl, refl, (λ why. refl), λ why. refl)
+
+-- and the number of each reason, in the table's order
+pub reasons-named : map reasonNumber
+    (Reason.TimestampMissing ∷ Reason.TimestampOld ∷ Reason.ResetOutside ∷ Reason.Outside ∷ Reason.ResetInside ∷ Reason.SynInside
+    ∷ Reason.AckMissing ∷ Reason.AckUnsent ∷ Reason.AckTooOld ∷ Reason.NoRoom ∷ [])
+    ≡ 21 ∷ 22 ∷ 23 ∷ 24 ∷ 26 ∷ 27 ∷ 28 ∷ 29 ∷ 31 ∷ 30 ∷ []
+reasons-named = refl
 
 module _ (k : Connection) (clock : ℕ) (s : Segment) where
   abbrev Holds : ℕ → Type 0
@@ -38,7 +47,7 @@ module _ (k : Connection) (clock : ℕ) (s : Segment) where
 
   pub as-listed : map {B = ℕ × Action} (λ (r : Row). (r .number, r .action)) (rows k clock s)
       ≡ (21, dropSilent) ∷ (22, dropWithAck) ∷ (23, dropSilent) ∷ (24, dropWithAck) ∷ (25, reset) ∷ (26, dropWithAck) ∷ (27, dropWithAck)
-      ∷ (28, dropSilent) ∷ (29, dropWithAck) ∷ (30, dropWithAck) ∷ []
+      ∷ (28, dropSilent) ∷ (29, dropWithAck) ∷ (31, dropWithAck) ∷ (30, dropWithAck) ∷ []
   unfolding rows
   as-listed = refl
 
@@ -101,6 +110,12 @@ module _ (k : Connection) (clock : ℕ) (s : Segment) where
   pub row-29 : Holds 29 ↔ (isBefore (k .send .nxt .0) (s .ack .0) ≡ true)
   unfolding rows
   row-29 = Iff·rfl
+
+  -- 31: ACK is more octets before UNA than the largest SND.WND, and at most 2^31
+  pub row-31 : Holds 31
+      ↔ ((k .send .largest < offsetOf (s .ack .0) (k .send .una .0)) × (offsetOf (s .ack .0) (k .send .una .0) ≤ 2 ^ 31))
+  unfolding rows
+  row-31 = too-old-exactly (k .send) (s .ack .0)
 
   -- 30: eight are held, the part is not empty, does not start at 0, and neither overlaps nor touches any
   abbrev part : Part

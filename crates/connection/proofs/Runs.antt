@@ -3,7 +3,7 @@
 use mathlib.Core.Bool.{Bool, true, false, cond}
 use mathlib.Core.List.{List, [], _∷_, _++_, append-assoc}
 use mathlib.Core.Option.{Option, none, some, Option·elim}
-use mathlib.Core.Path.{_≡_, refl, sym, ap, subst, _∙_}
+use mathlib.Core.Path.{_≡_, refl, sym, ap, _∙_}
 use Prim.Native.Nat.{ℕ}
 use lib.Dec.{ltb}
 use Rattle.rto.specs.Calls as rto
@@ -15,19 +15,18 @@ use Rattle.rto.proofs.Calls as timers
 use Rattle.segment.specs.Reading.{reading}
 use Rattle.segment.specs.declared.Segment.{Segment}
 use Rattle.connection.specs.declared.Connection.{Connection}
-use Rattle.connection.specs.declared.Setup.{Setup}
 use Rattle.connection.specs.Numbers.{Decision}
 use Rattle.connection.specs.Record.{Sound, blank}
-use Rattle.connection.specs.Opening.{OpeningAnswer, exceedsLimits, isNotSyn, isWrongAck, opening, openingFrom, openingRead, recordFrom, recordWith}
+use Rattle.connection.specs.Opening.{recordFrom, recordWith}
 use Rattle.connection.specs.Verdict.{decided, rows}
 use Rattle.connection.specs.Taking.{fedBy, recordAfter}
 use Rattle.connection.specs.Arriving.{arriving, arrivingRead, isTake, judged, notTaken, refusing, settled, takenBy}
 use Rattle.connection.specs.Operations.{acknowledged, expired, sent, windowOpened}
-use Rattle.connection.specs.Calls.{Call, Incoming, Opened, acknowledgment, arrival, called, expiry, openedBy, read, run, sending, timerCall, timerCalls, unread, window}
+use Rattle.connection.specs.Calls.{Call, Incoming, Opened, acknowledgment, arrival, arrived, called, expiry, read, run, sending, timerCall, timerCalls, unread, window}
 use Rattle.connection.specs.Demand.{Demand3, SoundAlways, TimerFollows}
 use Rattle.connection.specs.Cases.{base, base-opened, timed, timed-feeds}
-use Rattle.laws.proofs.Choices.{either, if-some}
-use Rattle.connection.proofs.Keeping.{acknowledged-sound, arriving-read-sound, arriving-sound, expired-sound, opening-read-sound, opening-sound, sent-sound, window-sound}
+use Rattle.connection.proofs.Incoming.{opened-holds}
+use Rattle.connection.proofs.Keeping.{acknowledged-sound, arrived-sound, blank-sound, expired-sound, record-sound, sent-sound, window-sound}
 
 -- what an arrival feeds to the timer is what its record's timer has run through
 module _ (k : Connection) (clock : ℕ) where
@@ -67,6 +66,11 @@ called-timer k (window n) = refl
 called-timer k expiry = refl
 called-timer k acknowledgment = refl
 
+-- what each call does to the record; of a written acknowledgment `acknowledgment` says it of its own function
+pub calls-are : (k : Connection) (clock n : ℕ) (i : Incoming) → (called k (arrival clock i) ≡ arrived k clock i .connection)
+    × (called k (sending n) ≡ sent k n .connection) × (called k (window n) ≡ windowOpened k n .connection) × (called k expiry ≡ expired k)
+calls-are k clock n i = (refl, refl, refl, refl)
+
 -- a list of calls, then another
 pub run-append : (k : Connection) (cs ds : List Call) → run k (cs ++ ds) ≡ run (run k cs) ds
 run-append k [] ds = refl
@@ -86,30 +90,13 @@ run-timer (c ∷ cs) k =
     ∙ sym (timers.run-append (k .timer) (timerCall k c) (timerCalls (called k c) cs)))
 
 -- the timer is new at opening
-abbrev New : OpeningAnswer → Type 0
-New a = a .connection .timer ≡ newTimer
-
-module _ (own : Setup) (clock : ℕ) where
-  opening-from-timer : (syn : Segment) → New (openingFrom own clock syn)
-  unfolding openingFrom recordFrom recordWith blank
-  opening-from-timer syn =
-      either New (isNotSyn syn) _ _ (λ _. refl) (λ _. either New (isWrongAck (own .iss .0) syn) _ _ (λ _. refl) (λ _. refl))
-
-  opening-timer : (syn : Incoming) → New (openedBy own clock syn)
-  unfolding opening openingRead blank
-  opening-timer (unread octets) =
-      either New (exceedsLimits own) _ _ (λ _. refl)
-      (λ _. if-some New (reading octets .fields) _ (openingFrom own clock) refl opening-from-timer)
-  opening-timer (read syn) =
-      either New (exceedsLimits own) _ _ (λ _. refl) (λ _. opening-from-timer syn)
-
 opened-timer : (k : Connection) → Opened k → k .timer ≡ newTimer
-opened-timer k o = sym (ap (λ (x : Connection). x .timer) (o .opens)) ∙ opening-timer (o .own) (o .clock) (o .syn)
+unfolding recordFrom recordWith blank
+opened-timer k o = opened-holds (λ (r : Connection). r .timer ≡ newTimer) refl k o (λ _ _. refl)
 
 -- an opening, then any calls
-called-sound : (k : Connection) (c : Call) → Sound k → Sound (called k c)
-called-sound k (arrival clock (unread octets)) h = arriving-sound k h clock octets
-called-sound k (arrival clock (read s)) h = arriving-read-sound k h clock s
+pub called-sound : (k : Connection) (c : Call) → Sound k → Sound (called k c)
+called-sound k (arrival clock i) h = arrived-sound k h clock i
 called-sound k (sending n) h = sent-sound k h n
 called-sound k (window n) h = window-sound k h n
 called-sound k expiry h = expired-sound k h
@@ -119,12 +106,8 @@ run-sound : (calls : List Call) (k : Connection) → Sound k → Sound (run k ca
 run-sound [] k h = h
 run-sound (c ∷ cs) k h = run-sound cs (called k c) (called-sound k c h)
 
-opened-sound : (own : Setup) (clock : ℕ) (syn : Incoming) → Sound (openedBy own clock syn .connection)
-opened-sound own clock (unread octets) = opening-sound own clock octets
-opened-sound own clock (read syn) = opening-read-sound own clock syn
-
 pub sound-always : SoundAlways
-sound-always k o calls = run-sound calls k (subst Sound (o .opens) (opened-sound (o .own) (o .clock) (o .syn)))
+sound-always k o calls = run-sound calls k (opened-holds Sound blank-sound k o (λ syn _. record-sound (o .own) (o .clock) syn))
 
 pub timer-follows : TimerFollows
 timer-follows k o calls = run-timer calls k ∙ ap (λ t. rto.run t (timerCalls k calls)) (opened-timer k o)

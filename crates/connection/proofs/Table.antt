@@ -1,12 +1,14 @@
 -- The table of verdicts: number n is given exactly when row n's condition holds and no earlier one does, and 0 when none holds; so a segment
 -- that is taken makes each condition false. Beside a row's number stands that row's answer. Assumes nothing.
 use mathlib.Core.Bool.{Bool, true, false, cond, not, _&&_, _||_, and-false, false≢true}
-use mathlib.Core.List.{List, [], _∷_, map}
+use mathlib.Core.List.{List, [], _∷_, _++_, map}
 use mathlib.Core.Option.{Option, none, some}
 use mathlib.Core.Path.{_≡_, refl, sym, ap, _∙_}
 use Prim.Native.Nat.{ℕ, _≤_, _<_}
 use lib.Dec.{eqb, ltb}
 use borrow.Author.Tests.{eq-eqb, eqb-false, eqb-true, le-ltb, lt-ltb, ne-eqb, not-true}
+use Rattle.laws.specs.Lists.{Each}
+use Rattle.laws.specs.Lists.Each.{none, more}
 use Rattle.laws.proofs.Choices.{both-true, either, neither}
 use Rattle.segment.specs.Options.{standsIn}
 use Rattle.segment.specs.declared.Segment.{Segment}
@@ -119,6 +121,12 @@ none-decided [] clear = refl
 none-decided (r ∷ rs) clear =
     let tests = both-true (not (r .holds)) (noneHolds rs) clear in
     rw (not-true (r .holds) (tests .0)) (none-decided rs (tests .1))
+
+-- a row whose condition holds decides, where that of no row before it does
+pub first-decides : {before : List Row} → Each (λ (b : Row). b .holds ≡ false) before → (r : Row) → r .holds ≡ true → (later : List Row)
+    → decided (before ++ (r ∷ later)) ≡ record { number = r .number; action = r .action }
+first-decides none r holds later = rw holds
+first-decides (more fails rest) r holds later = rw fails (first-decides rest r holds later)
 
 none-true : (n : ℕ) (table : List Row) → noneHolds table ≡ true → condition n table ≡ false
 none-true n [] clear = refl

@@ -59,6 +59,11 @@ abbrev pub run : Connection → List Call → Connection
 run k [] = k
 run k (c ∷ cs) = run (called k c) cs
 
+-- the records after each call, in their order
+abbrev pub recordsAfter : Connection → List Call → List Connection
+recordsAfter k [] = []
+recordsAfter k (c ∷ cs) = called k c ∷ recordsAfter (called k c) cs
+
 -- what an arrival feeds to the timer: the sample of a segment that is taken
 abbrev pub fed : Connection → ℕ → Incoming → List rto.Call
 fed k clock s = cond (isTake (arrived k clock s .decision .action)) (Option·elim (fieldsOf s) [] (fedBy k clock)) []

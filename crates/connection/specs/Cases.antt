@@ -1,5 +1,6 @@
--- One case for each verdict and each refusal number that the calls of this crate give, computed from the definitions under one statement, of
--- records that an opening gave, or an opening and the segments after it. Flags are 2 for SYN, 4 for RST, 16 for ACK.
+-- One case for each verdict and each refusal number that the calls of this crate give, two in which 31 holds beside 29 and beside 30, and the
+-- windows of a short run, computed from the definitions under one statement, of records that an opening gave, or an opening and the segments
+-- after it. Flags are 2 for SYN, 4 for RST, 16 for ACK.
 use Prim.Native.Nat.{ℕ, _+_, _*_, _/_}
 use mathlib.Core.Bool.{true, false}
 use mathlib.Core.List.{List, [], _∷_, _++_, map}
@@ -29,7 +30,7 @@ use Rattle.connection.specs.Verdict.{rows}
 use Rattle.connection.specs.Taking.{fedBy, recordAfter, sampleOf}
 use Rattle.connection.specs.Arriving.{arriving, arrivingRead, judged, settled, takenBy}
 use Rattle.connection.specs.Operations.{sent, windowOpened}
-use Rattle.connection.specs.Calls.{Call, Opened, arrival, run, timerCalls, unread}
+use Rattle.connection.specs.Calls.{Call, Opened, arrival, recordsAfter, run, timerCalls, unread}
 
 -- octets of a segment: SEQ, ACK, flags, window, options and payload
 abbrev pub octets : ℕ → ℕ → ℕ → ℕ → List ℕ → ℕ → List ℕ
@@ -69,6 +70,7 @@ recordHolding nxt window size lefts wl1 stamping = record {
     una = record { 0 = 1000 };
     nxt = record { 0 = 1001 };
     window = 9;
+    largest = 9;
     shift = 0;
     wl1 = record { 0 = wl1 };
     wl2 = record { 0 = 1000 };
@@ -92,6 +94,10 @@ full = holding (6700 ∷ 6600 ∷ 6500 ∷ 6400 ∷ 6300 ∷ 6200 ∷ 6100 ∷ 6
 -- ten octets from a number on
 abbrev ten : ℕ → Call
 ten seq = arrival 100 (unread (octets seq 1000 16 9 (stamps 50 0) 10))
+
+-- two segments without octets: the window goes up from 9 to 20, then down to 5
+abbrev pub rising : List Call
+rising = arrival 100 (unread (octets 5000 1000 16 20 (stamps 50 0) 0)) ∷ arrival 100 (unread (octets 5000 1000 16 5 (stamps 50 0) 0)) ∷ []
 
 -- an arrival at clock 150
 abbrev at : Connection → ℕ → ℕ → ℕ → List ℕ → ℕ → Decision
@@ -118,6 +124,9 @@ arrivals =
     ∷ (at base 5000 1001 2 (stamps 60 0) 0, decision 27 dropWithAck)
     ∷ (at base 5000 1001 0 (stamps 60 0) 0, decision 28 dropSilent)
     ∷ (at base 5000 1002 16 (stamps 60 0) 0, decision 29 dropWithAck)
+    ∷ (at base 5000 2147484648 16 (stamps 60 0) 0, decision 29 dropWithAck)
+    ∷ (at base 5000 990 16 (stamps 60 0) 0, decision 31 dropWithAck)
+    ∷ (at full 6800 990 16 (stamps 60 0) 10, decision 31 dropWithAck)
     ∷ (at full 6800 1001 16 (stamps 60 0) 10, decision 30 dropWithAck)
     ∷ (at base 5000 1001 16 (stamps 60 0) 10, decision 0 take)
     ∷ []
@@ -142,15 +151,17 @@ pub cases : (map (λ c. c .0) arrivals ≡ map (λ c. c .1) arrivals)
     × (opens 65535 0 2 .connection ≡ base)
     × (run base (ten 6000 ∷ ten 6100 ∷ ten 6200 ∷ ten 6300 ∷ ten 6400 ∷ ten 6500 ∷ ten 6600 ∷ ten 6700 ∷ []) ≡ full)
     × (timerCalls base timed ≡ rto.sample 57 ∷ [])
+    × (map (λ (k : Connection). k .send .window) (base ∷ recordsAfter base rising) ≡ 9 ∷ 20 ∷ 5 ∷ [])
+    × (run base rising .send .largest ≡ 20)
 unfolding arrivals numbers distanceOf offsetOf bigEndian numberAt exceedLimits inForce shiftsInForce heldOf isOutOfOrder joined leftOf meets noRoom
-    rangeOf rangesAfter rangesOf rightOf taking.holding taking.taken receive.acceptable receive.isWindowRefused receive.lacksRoom
+    rangeOf rangesAfter rangesOf rightOf taking.advanced taking.holding taking.taken receive.acceptable receive.isWindowRefused receive.lacksRoom
     receive.newPart receive.opened receive.windowOpened isBroken padding paddingRule faultAt faultIn isRepeated isWrongLength lengthsOf
-    oneToFour optionIn optionsOf standsIn optionsRead reading segmentOf send.opened send.isNew send.acknowledged send.isCurrent send.isLater
+    oneToFour optionIn optionsOf standsIn optionsRead reading segmentOf send.opened send.isTooOld send.isNew send.acknowledged send.isCurrent send.isLater
     send.updatesWindow send.windowed send.taken send.exceedsWindow send.sent isNotSyn isWrongAck opening openingFrom recordFrom recordWith
     timestamps.opened timestamps.isOld timestamps.isMissing timestamps.outdated timestamps.valueBefore timestamps.isRecorded
     timestamps.replacesRecent timestamps.taken rows fedBy recordAfter sampleOf arriving arrivingRead judged settled takenBy sent
     windowOpened Option·elim
-cases = (refl, refl, refl, refl, refl)
+cases = (refl, refl, refl, refl, refl, refl, refl)
 
 pub base-opened : Opened base
 base-opened = record { own = own 65535; clock = 100; syn = unread (octets 4999 0 2 9 (stamps 50 0) 0); opens = cases .2 }

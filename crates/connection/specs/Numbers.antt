@@ -1,4 +1,4 @@
--- Document 01's number, what is done, and what is passed on of reading the options, for each case of the enums.
+-- Document 01's number, of 31 document 02's, what is done, and what is passed on of reading the options, for each case of the enums.
 use mathlib.Core.Option.{Option, none, some}
 use Prim.Native.Nat.{ℕ}
 use Rattle.segment.specs.Reading.{faultPlace, numberOf}
@@ -44,6 +44,7 @@ reasonNumber Reason.ResetInside = 26
 reasonNumber Reason.SynInside = 27
 reasonNumber Reason.AckMissing = 28
 reasonNumber Reason.AckUnsent = 29
+reasonNumber Reason.AckTooOld = 31
 reasonNumber Reason.NoRoom = 30
 
 -- what document 01's table answers, and what E1 to E6 and E8 do

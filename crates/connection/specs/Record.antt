@@ -13,7 +13,7 @@ zero = record { 0 = 0 }
 unfoldable pub blank : Connection
 blank = record {
   receive = opened 0 0 0;
-  send = record { una = zero; nxt = zero; window = 0; shift = 0; wl1 = zero; wl2 = zero };
+  send = record { una = zero; nxt = zero; window = 0; largest = 0; shift = 0; wl1 = zero; wl2 = zero };
   timestamping = record { active = false; recent = record { 0 = 0 }; since = 0; offset = 0 };
   sack = false;
   mss = 0;

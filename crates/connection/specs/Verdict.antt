@@ -1,11 +1,11 @@
--- The verdict on an arriving segment (document 01, "Verdicts, in this order").
+-- The verdict on an arriving segment (document 01, "Verdicts, in this order"; of row 31 document 02, P5).
 use mathlib.Core.Bool.{Bool, true, false, cond, not, _&&_}
 use mathlib.Core.List.{List, [], _∷_}
 use Prim.Native.Nat.{ℕ}
 use lib.Dec.{eqb}
 use Rattle.receive.specs.Window.{acceptable, lacksRoom}
 use Rattle.segment.specs.declared.Segment.{Segment}
-use Rattle.send.specs.Send.{isUnsent}
+use Rattle.send.specs.Send.{isTooOld, isUnsent}
 use Rattle.timestamps.specs.Timestamps.{isMissing, isOld}
 use Rattle.connection.specs.declared.Connection.{Connection}
 use Rattle.connection.specs.Numbers.{Action, Decision, dropSilent, dropWithAck, reset, take}
@@ -41,6 +41,7 @@ rows k clock s =
     ∷ row 27 (s .flags .syn) dropWithAck
     ∷ row 28 (not (s .flags .ack)) dropSilent
     ∷ row 29 (isUnsent (k .send) (s .ack .0)) dropWithAck
+    ∷ row 31 (isTooOld (k .send) (s .ack .0)) dropWithAck
     ∷ row 30 (lacksRoom (k .receive) (s .seq .0) (s .len)) dropWithAck
     ∷ []
 

@@ -34,7 +34,7 @@ pub fn judge(k: Connection, clock: u64, s: Segment) -> Verdict
     Verdict::WithAck(Reason::Outside)
 }
 
-// 25 to 30, where none of 21 to 24 holds.
+// 25 to 28, then the others, where none of 21 to 24 holds.
 fn judge_acceptable(k: Connection, s: Segment) -> Verdict
     requires { ⌜ Sound k ⌝ }
     ensures { λ v. ⌜ ((clock : ℕ) → verdictOf v ≡ decided (drop 4 (rows k clock s))) ⌝ }
@@ -51,8 +51,19 @@ fn judge_acceptable(k: Connection, s: Segment) -> Verdict
     if !s.flags.ack {
         return Verdict::Silent(Reason::AckMissing);
     }
+    judge_plain(k, s)
+}
+
+// 29, 31 and 30, where none of 21 to 28 holds.
+fn judge_plain(k: Connection, s: Segment) -> Verdict
+    requires { ⌜ Sound k ⌝ }
+    ensures { λ v. ⌜ ((clock : ℕ) → verdictOf v ≡ decided (drop 8 (rows k clock s))) ⌝ }
+{
     if k.send.is_unsent(s.ack) {
         return Verdict::WithAck(Reason::AckUnsent);
+    }
+    if k.send.is_too_old(s.ack) {
+        return Verdict::WithAck(Reason::AckTooOld);
     }
     if k.receive.lacks_room(s.seq, s.len) {
         return Verdict::WithAck(Reason::NoRoom);

@@ -77,11 +77,14 @@ pub enum Reason {
     // 23 and 24.
     ResetOutside,
     Outside,
-    // 26 to 30.
+    // 26 to 29.
     ResetInside,
     SynInside,
     AckMissing,
     AckUnsent,
+    // 31, which stands before 30.
+    AckTooOld,
+    // 30.
     NoRoom,
 }
 
@@ -130,7 +133,7 @@ pub struct WindowAnswer {
     pub connection: Connection,
 }
 
-// Document 01's number of each refusal, reason, verdict and outcome.
+// Document 01's number of each refusal, reason, verdict and outcome, of 31 document 02's.
 impl OpenRefusal {
     pub fn number(self) -> u8
         ensures { λ r. ⌜ r ≡ openRefusalNumber self ⌝ }
@@ -168,6 +171,7 @@ impl Reason {
             Reason::SynInside => 27,
             Reason::AckMissing => 28,
             Reason::AckUnsent => 29,
+            Reason::AckTooOld => 31,
             Reason::NoRoom => 30,
         }
     }

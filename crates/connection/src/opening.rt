@@ -120,6 +120,7 @@ pub fn blank_record() -> Connection
         una: zero,
         nxt: zero,
         window: 0,
+        largest: 0,
         shift: 0,
         wl1: zero,
         wl2: zero,

@@ -8,10 +8,14 @@ pub either : {A : Type 0} (P : A → Type 0) (b : Bool) (x y : A) → (b ≡ tru
 either P true x y t f = t refl
 either P false x y t f = f refl
 
-pub if-some : {A B : Type 0} (P : B → Type 0) (o : Option A) (x : B) (f : A → B) → P x → ((a : A) → P (f a)) → P (Option·elim o x f)
+-- a value that may be there: of what is made of it, and of what stands for it
+pub if-some-is : {A B : Type 0} (P : B → Type 0) (o : Option A) (x : B) (f : A → B) → P x → ((a : A) → o ≡ some a → P (f a)) → P (Option·elim o x f)
 unfolding Option·elim
-if-some P none x f without with = without
-if-some P (some a) x f without with = with a
+if-some-is P none x f without with = without
+if-some-is P (some a) x f without with = with a refl
+
+pub if-some : {A B : Type 0} (P : B → Type 0) (o : Option A) (x : B) (f : A → B) → P x → ((a : A) → P (f a)) → P (Option·elim o x f)
+if-some P o x f without with = if-some-is P o x f without (λ a _. with a)
 
 pub both-true : (a b : Bool) → a && b ≡ true → (a ≡ true) × (b ≡ true)
 both-true true b t = (refl, t)

@@ -1,3 +1,4 @@
 pub mod Choices
+pub mod Largest
 pub mod Lists
 pub mod Tests

@@ -1,6 +1,9 @@
--- Lists by a test, and what holds of each element, or of each two.
-use mathlib.Core.Bool.{Bool, false, cond, _||_}
+-- Lists by a test, what holds of each element, or of each two, and the largest of a list of numbers.
+use mathlib.Core.Bool.{Bool, true, false, cond, _||_}
 use mathlib.Core.List.{List, [], _∷_}
+use mathlib.Core.Path.{_≡_}
+use Prim.Native.Nat.{ℕ, _≤_}
+use lib.Dec.{eqb}
 
 module _ {A : Type 0} where
   -- those that pass the test, in their order
@@ -22,3 +25,8 @@ pub data Each {A : Type 0} (P : A → Type 0) : List A → Type 0 where
 pub data EachTwo {A : Type 0} (R : A → A → Type 0) : List A → Type 0 where
   no-two : EachTwo R []
   more-two : {x : A} {xs : List A} → Each (R x) xs → EachTwo R xs → EachTwo R (x ∷ xs)
+
+-- n stands in the list, and no number in it is above n
+pub record IsLargest (n : ℕ) (l : List ℕ) : Type 0 where
+  pub stands-there : any (eqb n) l ≡ true
+  pub none-above : Each (λ m. m ≤ n) l

@@ -62,6 +62,7 @@ fn connection_numbers(k: Connection) {
     text::two(text::bit(k.sack), text::from_u16(k.mss));
     held_ranges(k.receive.held);
     timer_numbers(k.timer);
+    text::number(k.send.largest);
 }
 
 fn receive_numbers(r: Receive) {

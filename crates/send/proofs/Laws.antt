@@ -1,4 +1,5 @@
--- What document 01 says of the send side, apart from the definitions: what each test decides, what is moved, and what stays. Assumes nothing.
+-- What document 01 says of the send side, apart from the definitions: what each test decides, what is moved, and what stays. Of the largest
+-- window `Largest` has the rest. Assumes nothing.
 use mathlib.Core.Bool.{Bool, true, false}
 use mathlib.Core.Logic.{_↔_, _∨₁_}
 use mathlib.Core.Path.{_≡_, refl, sym, ap, subst, _∙_}
@@ -17,11 +18,11 @@ use Rattle.send.specs.declared.Send.{Send}
 use Rattle.send.proofs.Refusal.{sent-moves, sent-refusal-leaves}
 
 module _ (iss shift : ℕ) (syn : AckFields) where
-  -- SND.NXT = ISS+1, SND.WND is the window unscaled, WL1 = SEQ
+  -- SND.NXT = ISS+1, SND.WND is the window unscaled, and the largest so far, WL1 = SEQ
   pub opened-always : (flag : Bool) → let s = opened iss shift syn flag in
-      (s .nxt .0 ≡ (iss + 1) % 2 ^ 32) × (s .window ≡ syn .window) × (s .wl1 ≡ syn .seq)
+      (s .nxt .0 ≡ (iss + 1) % 2 ^ 32) × (s .window ≡ syn .window) × (s .largest ≡ syn .window) × (s .wl1 ≡ syn .seq)
   unfolding opened
-  opened-always flag = (refl, refl, refl)
+  opened-always flag = (refl, refl, refl, refl)
 
   -- UNA = ISS+1 if the SYN has ACK, else ISS; WL2 = ACK if the flag is set, else ISS
   pub opened-with-ack : let s = opened iss shift syn true in (s .una .0 ≡ (iss + 1) % 2 ^ 32) × (s .wl2 ≡ syn .ack)
@@ -143,6 +144,7 @@ pub record Notes (s : Send) (n : ℕ) (t : Send) : Type 0 where
   pub nxt-moves : t .nxt .0 ≡ (s .nxt .0 + n) % 2 ^ 32
   pub una-stays : t .una ≡ s .una
   pub window-stays : t .window ≡ s .window
+  pub largest-stays : t .largest ≡ s .largest
   pub shift-stays : t .shift ≡ s .shift
   pub wl1-stays : t .wl1 ≡ s .wl1
   pub wl2-stays : t .wl2 ≡ s .wl2
@@ -157,5 +159,15 @@ module _ (s : Send) (n : ℕ) where
   unfolding exceedsWindow
   sent-noted fits =
       let e = sent-moves s n (le-ltb (s .window) (offsetOf (s .una .0) (s .nxt .0) + n) fits) in
-      subst (λ (a : Answer). (a .number ≡ 0) × Notes s n (a .send)) (sym e)
-      (refl, record { nxt-moves = refl; una-stays = refl; window-stays = refl; shift-stays = refl; wl1-stays = refl; wl2-stays = refl })
+      subst (λ (a : Answer). (a .number ≡ 0) × Notes s n (a .send)) (sym e) (
+        refl,
+        record {
+          nxt-moves = refl;
+          una-stays = refl;
+          window-stays = refl;
+          largest-stays = refl;
+          shift-stays = refl;
+          wl1-stays = refl;
+          wl2-stays = refl;
+        },
+      )

@@ -1,3 +1,5 @@
+pub mod AckRange
+pub mod Largest
 pub mod Laws
 pub mod Refusal
 pub mod Sound

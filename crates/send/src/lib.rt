@@ -1,8 +1,8 @@
-// The send side of a connection, as far as arriving acknowledgments move it: which are new, the send window, the octets noted as sent,
-// and which of the peer's SACK blocks are listed.
+// The send side of a connection, as far as arriving acknowledgments move it: which are new and which too old, the send window, the octets
+// noted as sent, and which of the peer's SACK blocks are listed.
 ghost use mathlib.Core.Path.{_≡_};
-ghost use Prim.Native.Nat.{min, _≤_};
-ghost use Rattle.send.specs.Send.{acknowledged, exceedsWindow, isCurrent, isLater, isListed, isNew, isUnsent, numberOf, opened, sent, shown, taken, updatesWindow, windowed};
+ghost use Prim.Native.Nat.{max, min, _≤_};
+ghost use Rattle.send.specs.Send.{acknowledged, exceedsWindow, isCurrent, isLater, isListed, isNew, isTooOld, isUnsent, numberOf, opened, sent, shown, taken, updatesWindow, windowed};
 ghost use Rattle.send.specs.Sound.{Sound};
 use serial::Range;
 use serial::Seq;
@@ -10,12 +10,16 @@ use serial::Seq;
 // The greatest shift of a window.
 const MAX_SHIFT: u32 = 14;
 
+// The most that one sequence number can lie before another.
+const HALF_WAY: u32 = 0x8000_0000;
+
 pub struct Send {
     // SND.UNA and SND.NXT.
     pub una: Seq,
     pub nxt: Seq,
-    // SND.WND, and the shift by which the peer writes it.
+    // SND.WND, the largest that it was since the opening (RFC 5961's MAX.SND.WND), and the shift by which the peer writes it.
     pub window: u32,
+    pub largest: u32,
     pub shift: u32,
     // SEQ and ACK of the segment that last set the window.
     pub wl1: Seq,
@@ -63,6 +67,7 @@ impl Send {
         let nxt = iss.moved(1);
         let shift = at_most_14(shift);
         let window = syn.window as u32;
+        let largest = window;
         let wl1 = syn.seq;
         let ack = syn.ack;
         if flag {
@@ -70,6 +75,7 @@ impl Send {
                 una: nxt,
                 nxt,
                 window,
+                largest,
                 shift,
                 wl1,
                 wl2: ack,
@@ -79,6 +85,7 @@ impl Send {
                 una: iss,
                 nxt,
                 window,
+                largest,
                 shift,
                 wl1,
                 wl2: iss,
@@ -91,6 +98,17 @@ impl Send {
         ensures { λ r. ⌜ r ≡ isUnsent self (ack .0) ⌝ }
     {
         self.nxt.before(ack)
+    }
+
+    // Whether an ACK lies farther before UNA than the largest window: verdict 31.
+    pub fn is_too_old(self, ack: Seq) -> bool
+        ensures { λ r. ⌜ r ≡ isTooOld self (ack .0) ⌝ }
+    {
+        let back = self.una.offset(ack);
+        if back <= self.largest {
+            return false;
+        }
+        back <= HALF_WAY
     }
 
     // Whether an ACK is new.
@@ -209,15 +227,23 @@ impl Send {
         ensures { λ r. ⌜ r ≡ windowed self fields ⌝ }
     {
         let window = (fields.window as u32) << self.shift;
+        let largest = larger(self.largest, window);
         let wl1 = fields.seq;
         let wl2 = fields.ack;
         Send {
             window,
+            largest,
             wl1,
             wl2,
             ..self
         }
     }
+}
+
+fn larger(a: u32, b: u32) -> u32
+    ensures { λ r. ⌜ r ≡ max a b ⌝ }
+{
+    if a < b { b } else { a }
 }
 
 fn at_most_14(shift: u32) -> u32

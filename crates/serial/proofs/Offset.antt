@@ -53,7 +53,16 @@ module _ (base a x : ℕ) where
   pub offset-around : offsetOf base x < offsetOf base a → offsetOf a x ≡ offsetOf base x + 2 ^ 32 - offsetOf base a
   offset-around order = omega (arith, offset-sum, offset-below base a, offset-below a x)
 
--- a number lies 0 past itself
+-- a number lies 0 past itself, and from one to another and back again is a whole round
 pub offset-self : (a : ℕ) → offsetOf a a ≡ 0
 unfolding offsetOf
 offset-self a = omega arith
+
+pub offset-back : (a b : ℕ) → movedBy (offsetOf a b) (offsetOf b a) ≡ 0
+offset-back a b = offset-sum a b a ∙ offset-self a
+
+-- a number that is moved on by n lies n farther, modulo 2^32
+pub offset-of-moved : (base x n : ℕ) → offsetOf base (movedBy x n) ≡ movedBy (offsetOf base x) n
+offset-of-moved base x n =
+    sym (offset-only base (movedBy x n) (movedBy (offsetOf base x) n) (omega arith)
+    (moved-twice base (offsetOf base x) n ∙ (ap (λ y. movedBy y n) (moved-offset base x) ∙ remainder-moved x n)))

@@ -9,6 +9,8 @@ use crate::segment::{ACK, FIN, RST, SYN};
 use crate::serial::HALF;
 use crate::timer::MIN_RTO;
 
+mod ack_range;
+
 fn open(opening: &Opening, syn: &SegmentBuilder) -> Connection {
     Connection::open(opening, &syn.build()).unwrap().connection
 }
@@ -315,7 +317,8 @@ fn acks_around_the_sent_octets() {
     };
     assert_eq!(number(&mut connection, nxt.plus(1)), 29);
     assert_eq!(number(&mut connection, nxt.plus(HALF - 1)), 29);
-    assert_eq!(number(&mut connection, nxt.plus(HALF)), 0);
+    assert_eq!(number(&mut connection, nxt.plus(HALF)), 31);
+    assert_eq!(number(&mut connection, UNA.minus(1)), 0);
     assert_eq!(connection.snd_una, UNA);
     assert_eq!(number(&mut connection, nxt), 0);
     assert_eq!(connection.snd_una, nxt);
@@ -441,7 +444,7 @@ fn an_arrival_passes_on_places() {
 fn every_verdict_has_its_count() {
     let unknown = |segment: SegmentBuilder, count| segment.options(&[254, 2].repeat(count));
     let stamped = |seq, value| data(seq, 1).timestamps(Stamp(value), Stamp(0));
-    let unsent = SegmentBuilder::data(Seq(5_000), UNA.plus(1), 0).timestamps(Stamp(100), Stamp(0));
+    let acking = |ack| SegmentBuilder::data(Seq(5_000), ack, 0).timestamps(Stamp(100), Stamp(0));
     let segments = [
         (21, data(5_000, 1)),
         (22, stamped(5_000, 99)),
@@ -451,7 +454,8 @@ fn every_verdict_has_its_count() {
         (26, data(5_001, 1).flags(RST)),
         (27, stamped(5_000, 100).flags(SYN)),
         (28, stamped(5_000, 100).flags(0)),
-        (29, unsent),
+        (29, acking(UNA.plus(1))),
+        (31, acking(UNA.minus(8_193))),
         (0, stamped(5_000, 100)),
     ];
     for (number, segment) in segments {

@@ -1,13 +1,13 @@
 //! Random segments that arrive at a connection, near the edges of its record.
 
 use crate::builder::SegmentBuilder;
-use crate::connection::Connection;
+use crate::connection::{Connection, MAX_WINDOW_FIELD};
 use crate::random::Random;
 use crate::ranges::Range;
 use crate::segment::{ACK, FIN, MAX_SEGMENT, PSH, RST, SYN};
 use crate::serial::{Seq, Stamp, HALF};
 
-use super::edges::{beside, round_trip, serial_near};
+use super::edges::{around, beside, round_trip, serial_near};
 use super::opening::random_window_field;
 use super::{damage, unknown, Generator, Pattern, LONG_ARRIVAL_RATE, LONG_FREE_RATE};
 
@@ -22,7 +22,7 @@ impl Generator {
         let seq = random_seq(random, connection, pattern, length as u32);
         let ack = random_ack(random, connection);
         let mut segment = SegmentBuilder::new(seq, ack, random_flags(random))
-            .window(random_window_field(random))
+            .window(arriving_window(random, connection))
             .payload(length);
         if random.percent(if connection.timestamps { 96 } else { 20 }) {
             let (value, echo) = random_stamps(random, connection, clock);
@@ -132,15 +132,40 @@ fn random_ack(random: &mut Random, connection: &Connection) -> Seq {
     match random.below(100) {
         0..=24 => una,
         25..=44 => nxt,
-        45..=69 => una.plus(random.below_u32(una.offset_of(nxt).saturating_add(1))),
-        70..=76 => Seq(beside(random, nxt.0)),
-        77..=83 => Seq(beside(random, una.0)),
-        84..=88 => Seq(beside(random, nxt.0.wrapping_add(HALF))),
-        89..=94 => Seq(beside(random, connection.snd_wl2.0.wrapping_add(HALF))),
+        45..=70 => una.plus(random.below_u32(una.offset_of(nxt).saturating_add(1))),
+        71..=77 => Seq(beside(random, nxt.0)),
+        78..=82 => Seq(beside(random, una.0)),
+        83..=84 => Seq(beside(random, nxt.0.wrapping_add(HALF))),
+        85 => Seq(beside(random, connection.snd_wl2.0.wrapping_add(HALF))),
+        86..=94 => before_una(random, connection),
         95..=96 => Seq(serial_near(random, una.0)),
         97 => connection.snd_wl2,
         _ => Seq(random.next_u32()),
     }
+}
+
+/// An ACK before SND.UNA: around the oldest that is taken, around the present window, between, or around 2^31 away.
+fn before_una(random: &mut Random, connection: &Connection) -> Seq {
+    let una = connection.snd_una;
+    let largest = connection.max_snd_wnd;
+    match random.below(8) {
+        0..=3 => Seq(around(random, una.minus(largest).0)),
+        4 => Seq(around(random, una.minus(connection.snd_wnd).0)),
+        5 | 6 => una.minus(random.below_u32(largest + 1)),
+        _ => Seq(around(random, una.minus(HALF).0)),
+    }
+}
+
+/// A window field that often lies below the largest so far or rises a little above it.
+fn arriving_window(random: &mut Random, connection: &Connection) -> u16 {
+    let largest = connection.max_snd_wnd >> connection.snd_shift;
+    let field = match random.below(10) {
+        0 | 1 => return random_window_field(random),
+        2..=4 => around(random, largest + 2),
+        5 | 6 => largest,
+        _ => random.below_u32(largest + 1),
+    };
+    field.min(MAX_WINDOW_FIELD) as u16
 }
 
 fn random_flags(random: &mut Random) -> u8 {

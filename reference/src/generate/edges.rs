@@ -10,6 +10,12 @@ pub fn beside(random: &mut Random, number: u32) -> u32 {
     number.wrapping_add(step).wrapping_sub(1)
 }
 
+/// The number itself or one up to two away from it.
+pub fn around(random: &mut Random, number: u32) -> u32 {
+    let step = random.below_u32(5);
+    number.wrapping_add(step).wrapping_sub(2)
+}
+
 /// A serial number near the given one, 2^31 away from it, or anywhere.
 pub fn serial_near(random: &mut Random, number: u32) -> u32 {
     match random.below(8) {

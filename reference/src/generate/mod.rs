@@ -376,9 +376,18 @@ mod tests {
     }
 
     #[test]
+    fn takes_stay_the_most_and_acks_too_old_come_up() {
+        let counts = Counts::of(&random_script(8, 40_000));
+        let arrivals: u64 = (0..=31).map(|number| counts.count("arrive", number)).sum();
+        let share = |number| 100 * counts.count("arrive", number) / arrivals;
+        assert!(share(0) >= 45, "{}", share(0));
+        assert!((1..5).contains(&share(31)), "{}", share(31));
+    }
+
+    #[test]
     fn places_counts_and_steps_go_far() {
         // With fewer calls it hangs on the seed whether openings get there.
-        let counts = Counts::of(&random_script(6, 160_000));
+        let counts = Counts::of(&random_script(6, 320_000));
         for name in ["read", "open", "arrive"] {
             let most = |number| counts.span(name, number).map_or(0, |(_, most)| most);
             assert!(most(0) >= 10, "{} {}", name, most(0));

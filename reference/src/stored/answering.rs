@@ -5,7 +5,7 @@ use crate::connection::OUTDATED_AFTER;
 use crate::options::NOP;
 use crate::script::Call;
 use crate::segment::{ACK, FIN, RST, SYN};
-use crate::serial::{Stamp, HALF};
+use crate::serial::{Seq, Stamp, HALF};
 use crate::timer::MAX_SAMPLE;
 
 use super::calls::CallList;
@@ -194,6 +194,13 @@ fn not_taken(calls: &mut CallList) {
     calls.arrive_at(
         LATER,
         &stamped(5_000, 1_002, 60, 100).flags(ACK | FIN).payload(500),
+    );
+    let too_old = Seq(1_000).minus(8_193).0;
+    calls.arrive_at(
+        LATER,
+        &stamped(5_000, too_old, 60, 100)
+            .flags(ACK | FIN)
+            .payload(500),
     );
     full(calls);
     calls.arrive_at(LATER, &whole(7_000, ACK | FIN));

@@ -131,7 +131,7 @@ fn flags(calls: &mut CallList) {
     arrive_each(calls, extended, &segments);
 }
 
-/// 29: one above SND.NXT and up to 2^31 above it, which is not before.
+/// 29: one above SND.NXT and up to 2^31 - 1 above it; 2^31 above it is too old.
 fn acks(calls: &mut CallList) {
     let acks = [1_002, 1_001 + HALF - 1, 1_001 + HALF, 1_001];
     let segments = acks.map(|ack| stamped(5_000, ack, 50, 0));

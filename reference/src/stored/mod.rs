@@ -1,5 +1,6 @@
 //! The stored script: the examples of RFC 2018, the marked cases, both sides of every limit, random calls; and the stored stream.
 
+mod ack_range;
 mod acknowledging;
 mod answering;
 mod calls;
@@ -70,6 +71,7 @@ pub fn script() -> Vec<u8> {
     writing::add(&mut calls);
     sending::add(&mut calls);
     send_side::add(&mut calls);
+    ack_range::add(&mut calls);
     timers::add(&mut calls);
     let mut script = calls.into_script();
     script.extend(random_calls());
@@ -105,7 +107,7 @@ mod tests {
             assert_eq!(counts.span(name, 5), Some((20, 58)));
             assert_eq!(counts.span(name, 6), Some((22, 58)));
         }
-        for number in 21..=30 {
+        for number in 21..=31 {
             assert!(matches!(counts.span("arrive", number), Some((0, 1..))));
         }
     }

@@ -107,7 +107,7 @@ fn openings(calls: &mut CallList) {
     }
 }
 
-/// 29 by serial distance, and not at 2^31 apart.
+/// 29 by serial distance, and not at 2^31 apart, where an ACK is too old.
 fn unsent(calls: &mut CallList) {
     SIDE.arrive_acks(calls, &[200, 201, 150, 199 + HALF, 200 + HALF, 201 + HALF]);
     let before_0 = Side {
@@ -125,16 +125,17 @@ fn new_acks(calls: &mut CallList) {
     NOTHING_SENT.arrive_acks(calls, &[700, 701, 699]);
 }
 
-/// Windows scaled by the peer's shift, a window of 0, and SND.UNA of before, which is old after a new ACK.
+/// Windows scaled by the peer's shift, a window of 0, an ACK as old as may be, and SND.UNA of before, old after a new ACK.
 fn windows(calls: &mut CallList) {
     for (shift, window) in [(14, 65_534), (13, 65_535), (3, 7)] {
         Side { shift, ..SIDE }.arrive_each(calls, &[(51, 150, window)]);
     }
     Side { shift: 0, ..SIDE }.arrive_each(calls, &[(51, 200, 7)]);
     Side { una: 200, ..SIDE }.arrive_each(calls, &[(51, 200, 0)]);
+    let oldest = Seq(100).minus(65_535).0;
     SIDE.arrive_each(
         calls,
-        &[(51, 100, 7), (51, 99, 7), (51, 201, 7), (51, 200 + HALF, 7)],
+        &[(51, 100, 7), (51, 99, 7), (51, 201, 7), (51, oldest, 7)],
     );
     SIDE.arrive_each(calls, &[(51, 150, 7)]);
     calls.arrive(&SegmentBuilder::data(Seq(52), Seq(100), 0).window(6));

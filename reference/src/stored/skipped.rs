@@ -91,8 +91,9 @@ fn taken(calls: &mut CallList) {
     calls.arrive_at(SET, &with_unknown(segment, 3).payload(9));
 }
 
-/// 21 to 30 in their order, each with a count of its own; 20, and 14 beside timestamps, are the most that there is room for.
+/// 21 to 29, 31 and 30 in their order, each with a count of its own; there is room for 20 at most, and for 14 beside timestamps.
 fn not_taken(calls: &mut CallList) {
+    let too_old = Seq(1_000).minus(8_193).0;
     let segments = [
         (20, segment(5_000, 1_001, ACK)),
         (14, stamped(5_000, 1_001, 49, 0)),
@@ -103,6 +104,7 @@ fn not_taken(calls: &mut CallList) {
         (7, stamped(5_000, 1_001, 50, 0).flags(SYN)),
         (8, stamped(5_000, 1_001, 50, 0).flags(0)),
         (9, stamped(5_000, 1_002, 50, 0)),
+        (11, stamped(5_000, too_old, 50, 0)),
     ];
     extended(calls);
     for (count, segment) in segments {

@@ -172,6 +172,7 @@ fn resets(calls: &mut CallList) {
     }
 }
 
+/// 29 up to 2^31 - 1 above SND.NXT; from there on an ACK is too old, up to the largest window before SND.UNA.
 fn acks(calls: &mut CallList) {
     calls.open_plain();
     calls.sent(100);

@@ -1,7 +1,9 @@
 -- Each way through the code is a case of the flag. Assumes nothing.
-use native.Mathlib.Omega.{arith}
+use mathlib.Core.Bool.{true, false}
+use mathlib.Core.Path.{refl}
 use borrow.Author.Needs.{needs}
 use Rattle.send.specs.Send.{opened}
+use Rattle.send.proofs.Sound.{opened-sound}
 use Rattle.send.proofs.Send.new.Statement.{statement}
 use Rattle.send.proofs.Send.new.Tie as tie
 
@@ -18,13 +20,15 @@ returns : tie.Need-returns
 unfolding opened
 returns c =
     let cut = c .before .before .before .before in
-    (rw (cut .before .moved .ensures, cut .at-most-14 .ensures, c .if1 .taken), record { shift-most = omega (arith, cut .at-most-14 .ensures) })
+    let a = cut .before .before .args in
+    rw (cut .before .moved .ensures, cut .at-most-14 .ensures, c .if1 .taken) (refl, opened-sound (a .iss .0) (a .shift) (a .syn) true)
 
 returns-2 : tie.Need-returns-2
 unfolding opened
 returns-2 c =
     let cut = c .before .before .before .before in
-    (rw (cut .before .moved .ensures, cut .at-most-14 .ensures, c .if1 .left), record { shift-most = omega (arith, cut .at-most-14 .ensures) })
+    let a = cut .before .before .args in
+    rw (cut .before .moved .ensures, cut .at-most-14 .ensures, c .if1 .left) (refl, opened-sound (a .iss .0) (a .shift) (a .syn) false)
 
 pub new-spec : {M : Type 1} → statement M
 new-spec = tie.close (tie.spec moved-requires at-most-14-requires cast-window returns returns-2)

@@ -11,11 +11,15 @@ cast-window c = search needs
 shl-window : tie.Need-shl-window
 shl-window c = search needs
 
+larger-requires : tie.Need-larger-requires
+larger-requires c κs = search needs
+
 returns : tie.Need-returns
 unfolding windowed
 returns c =
-    let a = c .before .before .before .before .before .before .args in
-    rw (shl-exact {a = a .fields .window} 16 (a .self .shift) 32 (search needs) (search needs))
+    let raised = c .before .before .before .before in
+    let a = raised .before .before .before .args in
+    rw (raised .larger .ensures, shl-exact {a = a .fields .window} 16 (a .self .shift) 32 (search needs) (search needs))
 
 pub windowed-spec : {M : Type 1} → statement M
-windowed-spec = tie.close (tie.spec cast-window shl-window returns)
+windowed-spec = tie.close (tie.spec cast-window shl-window larger-requires returns)
