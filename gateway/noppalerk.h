@@ -51,8 +51,11 @@ int32_t noppalerk_distance(uint32_t from, uint32_t to);
 
 /*
  * The retransmission timer in whole milliseconds, 1,000 to 60,000, of a smoothed round-trip time S (`srtt`) and its
- * variation V (`rttvar`), both in 1/256 ms: the least whole number not below (S + max(256, 4V) + 47)/256, then raised to
+ * variation V (`rttvar`), both in 1/256 ms: the least whole number not below (S + max(256, 4V) + 887)/256, then raised to
  * 1,000 or cut to 60,000.
+ *
+ * The margin of 887 covers S and V that were rounded down at every sample, with weights of 1/(8N) and 1/(4N) for any N from
+ * 1 to 16, where N is RFC 7323's ExpectedSamples (Appendix G).
  *
  * S and V are 64 bits wide, so that no number is cut before it is judged. It is 0 where S or V is above 153,600,000.
  */

@@ -226,6 +226,7 @@ impl Display for Difference {
 mod tests {
     use super::*;
     use crate::script::Call;
+    use crate::timer::Sample;
 
     #[test]
     fn the_first_differing_line_is_found() {
@@ -240,7 +241,7 @@ mod tests {
     fn a_line_leads_to_its_call() {
         let mut script = Vec::new();
         Call::Timer.encode(&mut script);
-        Call::Sample { round_trip: 7 }.encode(&mut script);
+        Call::Sample(Sample::new(7, 16)).encode(&mut script);
         Call::Expiry.encode(&mut script);
         script.push(99);
         let found = |line| {
@@ -249,7 +250,7 @@ mod tests {
         };
         assert_eq!(found(0), (1, "timer".into(), 0));
         assert_eq!(found(1), (1, "timer".into(), 0));
-        assert_eq!(found(3), (2, "sample 7".into(), 1));
+        assert_eq!(found(3), (2, "sample 7 N 16".into(), 1));
         assert_eq!(found(5), (3, "expiry".into(), 2));
         assert_eq!(found(6), (4, "a bad call, 1 octets are left: 63".into(), 3));
     }

@@ -5,7 +5,7 @@ use crate::ranges::HeldRanges;
 use crate::refusal::Refusal;
 use crate::segment::Segment;
 use crate::serial::{Seq, Stamp, HALF};
-use crate::timer::Timer;
+use crate::timer::{expected_samples, Sample, Timer};
 use crate::verdict::{Judged, Part, Reason, Rejection, ReportedBlocks, Taken, Verdict};
 
 pub const MAX_SHIFT: u8 = 14;
@@ -132,8 +132,7 @@ impl Connection {
 
     /// Notes `count` octets as sent.
     pub fn note_sent(&mut self, count: u32) -> Result<(), Refusal> {
-        let outstanding = u64::from(self.snd_una.offset_of(self.snd_nxt));
-        if outstanding + u64::from(count) > u64::from(self.snd_wnd) {
+        if u64::from(self.outstanding()) + u64::from(count) > u64::from(self.snd_wnd) {
             return Err(Refusal::BeyondSendWindow);
         }
         self.snd_nxt = self.snd_nxt.plus(count);
@@ -154,6 +153,11 @@ impl Connection {
         self.timer.expire();
     }
 
+    /// The octets that are sent and not acknowledged; our SYN counts as one.
+    pub fn outstanding(&self) -> u32 {
+        self.snd_una.offset_of(self.snd_nxt)
+    }
+
     /// The largest receive window that the window field can announce.
     pub fn max_rcv_wnd(&self) -> u32 {
         MAX_WINDOW_FIELD << self.rcv_shift
@@ -162,6 +166,18 @@ impl Connection {
     /// Our timestamp at a clock.
     pub fn stamp(&self, clock: u64) -> Stamp {
         Stamp::of_clock(clock, self.offset)
+    }
+
+    /// The round-trip sample that a segment gives where it is taken.
+    pub fn sample_of(&self, clock: u64, segment: &Segment) -> Option<Sample> {
+        let stamps = self.stamps_of(segment)?;
+        if !self.is_new(segment.ack) {
+            return None;
+        }
+        Some(Sample {
+            round_trip: self.stamp(clock).since(stamps.echo),
+            expected: expected_samples(self.outstanding(), self.mss),
+        })
     }
 
     /// E8: the clock must not lie below the time at which TS.Recent was last set.
@@ -283,20 +299,26 @@ impl Connection {
     }
 
     fn take<'a>(&mut self, clock: u64, segment: &Segment<'a>, part: Part) -> Taken<'a> {
-        let stamps = segment.options.timestamps.filter(|_| self.timestamps);
-        if let Some(stamps) = stamps {
+        // The sample's N goes by what is outstanding before the ACK.
+        let sample = self.sample_of(clock, segment);
+        if let Some(stamps) = self.stamps_of(segment) {
             self.update_ts_recent(clock, segment.seq, stamps);
         }
         self.receive(&part);
-        if self.process_ack(segment) {
-            if let Some(stamps) = stamps {
-                self.sample_round_trip(clock, stamps);
-            }
+        self.process_ack(segment);
+        if let Some(sample) = sample {
+            // A sample that the timer refuses is left out, and the segment is taken all the same.
+            let _ = self.timer.sample(sample);
         }
         Taken {
             part,
             sack: self.reported_blocks(segment.options.sack),
         }
+    }
+
+    /// The segment's timestamps where they are in force.
+    fn stamps_of(&self, segment: &Segment) -> Option<Timestamps> {
+        segment.options.timestamps.filter(|_| self.timestamps)
     }
 
     fn update_ts_recent(&mut self, clock: u64, seq: Seq, stamps: Timestamps) {
@@ -320,11 +342,15 @@ impl Connection {
         }
     }
 
-    /// Moves SND.UNA and the send window; says whether the ACK is new.
-    fn process_ack(&mut self, segment: &Segment) -> bool {
-        let acked = self.snd_una.offset_of(segment.ack);
-        let is_new = acked > 0 && acked <= self.snd_una.offset_of(self.snd_nxt);
-        if (is_new || acked == 0) && self.updates_window(segment) {
+    fn is_new(&self, ack: Seq) -> bool {
+        let acked = self.snd_una.offset_of(ack);
+        0 < acked && acked <= self.outstanding()
+    }
+
+    /// Moves SND.UNA and the send window.
+    fn process_ack(&mut self, segment: &Segment) {
+        let is_new = self.is_new(segment.ack);
+        if (is_new || segment.ack == self.snd_una) && self.updates_window(segment) {
             self.snd_wnd = u32::from(segment.window) << self.snd_shift;
             self.max_snd_wnd = self.max_snd_wnd.max(self.snd_wnd);
             self.snd_wl1 = segment.seq;
@@ -333,18 +359,11 @@ impl Connection {
         if is_new {
             self.snd_una = segment.ack;
         }
-        is_new
     }
 
     fn updates_window(&self, segment: &Segment) -> bool {
         self.snd_wl1.before(segment.seq)
             || (self.snd_wl1 == segment.seq && self.snd_wl2.at_or_before(segment.ack))
-    }
-
-    fn sample_round_trip(&mut self, clock: u64, stamps: Timestamps) {
-        let round_trip = self.stamp(clock).since(stamps.echo);
-        // A sample that the timer refuses is left out, and the segment is taken all the same.
-        let _ = self.timer.sample(round_trip);
     }
 
     /// The peer's SACK blocks by the record as it is now; none where SACK is not in force.

@@ -1,11 +1,14 @@
 //! Counts how often each call of a script gave each number, with the least and the most of the places of faulty
-//! options, or of the counts of skipped ones, that came with it, and with the numbers of steps.
+//! options, or of the counts of skipped ones, that came with it, and with the numbers of steps; and the N of samples.
 
 use std::collections::{BTreeMap, BTreeSet};
 use std::fmt::{self, Display};
 
+use crate::connection::Connection;
 use crate::play::{Player, BAD_LINE};
 use crate::script::{Call, Calls};
+use crate::segment::Segment;
+use crate::timer::{Sample, MAX_SAMPLE};
 
 /// The calls that give numbers, and the numbers that each can give.
 const POSSIBLE: [(&str, &[u8]); 8] = [
@@ -35,6 +38,9 @@ enum Outcome {
     Closed,
     Number(u8),
 }
+
+const TAKEN: Outcome = Outcome::Number(0);
+const REFUSED_SAMPLE: Outcome = Outcome::Number(14);
 
 impl Display for Outcome {
     fn fmt(&self, f: &mut fmt::Formatter) -> fmt::Result {
@@ -69,6 +75,10 @@ impl Tally {
 #[derive(Default)]
 pub struct Counts {
     counts: BTreeMap<(&'static str, Outcome), Tally>,
+    /// How many takes fed a sample with each N to a timer that had one before.
+    fed: BTreeMap<u32, u64>,
+    /// How many samples with a good R the timer that stands by itself refused.
+    refused_for_n: u64,
 }
 
 impl Counts {
@@ -80,10 +90,13 @@ impl Counts {
         for call in Calls::new(script) {
             match call {
                 Ok(call) => {
+                    let before = player.connection().copied();
                     lines.clear();
                     player.play(&call, &mut lines);
-                    let tally = counts.tally(name(&call), outcome(&call, &lines));
+                    let outcome = outcome(&call, &lines);
+                    let tally = counts.tally(name(&call), outcome);
                     tally.note(place_or_count(&call, &lines), steps(&call, &lines));
+                    counts.note_sample(&call, outcome, before.as_ref());
                 }
                 Err(_) => {
                     let tally = counts.tally(BAD_LINE.trim_end(), Outcome::Plain);
@@ -96,6 +109,31 @@ impl Counts {
 
     fn tally(&mut self, name: &'static str, outcome: Outcome) -> &mut Tally {
         self.counts.entry((name, outcome)).or_default()
+    }
+
+    fn note_sample(&mut self, call: &Call, outcome: Outcome, before: Option<&Connection>) {
+        match *call {
+            Call::Sample(sample) if outcome == REFUSED_SAMPLE => {
+                self.refused_for_n += u64::from(sample.round_trip <= MAX_SAMPLE);
+            }
+            Call::Arrive { clock, segment } if outcome == TAKEN => {
+                let fed = before.and_then(|before| later_sample(before, clock, segment));
+                if let Some(sample) = fed {
+                    *self.fed.entry(sample.expected).or_default() += 1;
+                }
+            }
+            _ => {}
+        }
+    }
+
+    /// How many takes fed a sample with this N to a timer that had one before.
+    pub fn fed(&self, expected: u32) -> u64 {
+        self.fed.get(&expected).copied().unwrap_or(0)
+    }
+
+    /// How many samples with a good R the timer that stands by itself refused.
+    pub fn refused_for_n(&self) -> u64 {
+        self.refused_for_n
     }
 
     /// The least and the most of the places or counts that came with a number; none where none came.
@@ -145,6 +183,10 @@ impl Display for Counts {
                 joined(runs(&tally.steps)),
             )?;
         }
+        let fed = self.fed.iter();
+        let by_n = fed.map(|(expected, count)| format!("{}: {}", expected, count));
+        writeln!(f, "later samples of takes by N: {}", listed(by_n, ", "))?;
+        writeln!(f, "samples refused for N alone: {}", self.refused_for_n)?;
         let missing = self.never_reached();
         if missing.is_empty() {
             return writeln!(f, "never reached: none");
@@ -169,14 +211,25 @@ fn runs(numbers: &BTreeSet<u8>) -> Vec<(u8, u8)> {
 
 /// Spans as the table has them, `-` where there are none.
 fn joined(spans: impl IntoIterator<Item = (u8, u8)>) -> String {
-    let words: Vec<String> = spans
-        .into_iter()
-        .map(|(least, most)| format!("{}-{}", least, most))
-        .collect();
+    let spans = spans.into_iter();
+    let words = spans.map(|(least, most)| format!("{}-{}", least, most));
+    listed(words, ",")
+}
+
+/// Words one behind the other, `-` where there are none.
+fn listed(words: impl Iterator<Item = String>, between: &str) -> String {
+    let words: Vec<String> = words.collect();
     if words.is_empty() {
         return "-".to_owned();
     }
-    words.join(",")
+    words.join(between)
+}
+
+/// The sample that a taken segment fed to a timer that had one before: it is there that N counts.
+fn later_sample(before: &Connection, clock: u64, segment: &[u8]) -> Option<Sample> {
+    let segment = Segment::read(segment).result.ok()?;
+    let sample = before.sample_of(clock, &segment)?;
+    (before.timer.sampled && sample.is_allowed()).then_some(sample)
 }
 
 /// The name of a call in the table; the two distances have names of their own.
@@ -192,7 +245,7 @@ fn name(call: &Call) -> &'static str {
         Call::Acknowledge { .. } => "acknowledge",
         Call::Expire => "expire",
         Call::Timer => "timer",
-        Call::Sample { .. } => "sample",
+        Call::Sample(_) => "sample",
         Call::Expiry => "expiry",
         Call::Refusal { .. } => "refusal",
         Call::DistanceFromC { .. } => "distance from C",
@@ -236,14 +289,21 @@ fn field_from_end(lines: &str, behind: usize) -> Option<u8> {
 mod tests {
     use super::*;
     use crate::builder::SegmentBuilder;
-    use crate::serial::Seq;
+    use crate::cases::{opening, syn, CLOCK, NEXT, RECENT, UNA};
+    use crate::connection::Opening;
+    use crate::serial::{Seq, Stamp};
+
+    fn sample(round_trip: u32, expected: u32) -> Call<'static> {
+        Call::Sample(Sample::new(round_trip, expected))
+    }
 
     #[test]
     fn numbers_are_counted_by_call() {
         let mut script = Vec::new();
         Call::Sent { count: 1 }.encode(&mut script);
-        Call::Sample { round_trip: 7 }.encode(&mut script);
-        Call::Sample { round_trip: 7 }.encode(&mut script);
+        for expected in [1, 16] {
+            sample(7, expected).encode(&mut script);
+        }
         Call::Distance { a: 0, b: 14 }.encode(&mut script);
         script.push(0);
         let table = Counts::of(&script).to_string();
@@ -257,6 +317,44 @@ mod tests {
         assert_eq!(rows[4], ["sent", "closed", "1", "-", "-"]);
         assert!(table.contains("never reached: sample 14\n"));
         assert!(!table.contains("never reached: sample 0\n"));
+    }
+
+    #[test]
+    fn samples_are_counted_by_n() {
+        let mut script = Vec::new();
+        for (round_trip, expected) in [(600_001, 0), (600_001, 1), (600_000, 0), (7, 17), (7, 16)] {
+            sample(round_trip, expected).encode(&mut script);
+        }
+        let opening = Opening {
+            timestamps: true,
+            ..opening()
+        };
+        let segment = &syn().timestamps(RECENT, Stamp(0)).build();
+        Call::Open { opening, segment }.encode(&mut script);
+        Call::Sent { count: 2_000 }.encode(&mut script);
+        // The first sample, one left out, one of a segment that is dropped, none, and two with N = 2 and 1.
+        let acks = [
+            (NEXT, 1, 9),
+            (NEXT, 2, 600_001),
+            (NEXT.minus(1), 3, 9),
+            (NEXT, 2, 9),
+            (NEXT, 999, 9),
+            (NEXT, 1_000, 9),
+        ];
+        for (seq, acked, round_trip) in acks {
+            let echo = Stamp::of_clock(CLOCK, 0).minus(round_trip);
+            let segment = SegmentBuilder::data(seq, UNA.plus(acked), 0).timestamps(RECENT, echo);
+            let segment = &segment.build();
+            let clock = CLOCK;
+            Call::Arrive { clock, segment }.encode(&mut script);
+        }
+        let counts = Counts::of(&script);
+        assert_eq!((1..=16).map(|n| counts.fed(n)).sum::<u64>(), 2);
+        assert_eq!((counts.fed(1), counts.fed(2)), (1, 1));
+        assert_eq!(counts.refused_for_n(), 2);
+        let table = counts.to_string();
+        assert!(table.contains("\nlater samples of takes by N: 1: 1, 2: 1\n"));
+        assert!(table.contains("\nsamples refused for N alone: 2\n"));
     }
 
     #[test]

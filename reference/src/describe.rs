@@ -70,7 +70,9 @@ impl Display for Readable<'_> {
             }
             Call::Expire => f.write_str("expire"),
             Call::Timer => f.write_str("timer"),
-            Call::Sample { round_trip } => write!(f, "sample {}", round_trip),
+            Call::Sample(sample) => {
+                write!(f, "sample {} N {}", sample.round_trip, sample.expected)
+            }
             Call::Expiry => f.write_str("expiry"),
             Call::Refusal { segment } => {
                 f.write_str("refusal ")?;

@@ -28,14 +28,6 @@ impl Natural {
         self.limbs.get(at).copied().unwrap_or(0)
     }
 
-    /// The number as 64 bits, where it fits.
-    pub fn to_u64(&self) -> Option<u64> {
-        match self.limbs.len() {
-            0 | 1 => Some(self.limb(0)),
-            _ => None,
-        }
-    }
-
     pub fn plus(&self, other: &Natural) -> Natural {
         let length = self.limbs.len().max(other.limbs.len());
         let mut limbs = Vec::with_capacity(length + 1);
@@ -79,21 +71,24 @@ impl Natural {
         Natural::trimmed(limbs)
     }
 
-    /// The number times 2^bits.
-    pub fn shifted_left(&self, bits: usize) -> Natural {
-        let mut limbs = vec![0; bits / LIMB_BITS];
-        limbs.extend(self.times(1 << (bits % LIMB_BITS)).limbs);
-        Natural::trimmed(limbs)
+    /// How often the divisor, which is not 0, goes into the number; less than 2^64 times.
+    pub fn quotient(&self, divisor: &Natural) -> u64 {
+        let more_bits = self.bits().saturating_sub(divisor.bits());
+        let mut quotient = 0;
+        for bit in (0..=more_bits.min(LIMB_BITS - 1)).rev() {
+            let larger = quotient | 1 << bit;
+            if divisor.times(larger) <= *self {
+                quotient = larger;
+            }
+        }
+        quotient
     }
 
-    /// The number divided by 2^bits, rounded down.
-    pub fn shifted_right(&self, bits: usize) -> Natural {
-        let (whole, part) = (bits / LIMB_BITS, bits % LIMB_BITS);
-        let shifted = |at: usize| {
-            let pair = u128::from(self.limb(at + 1)) << LIMB_BITS | u128::from(self.limb(at));
-            (pair >> part) as u64
-        };
-        Natural::trimmed((whole..self.limbs.len()).map(shifted).collect())
+    /// How many bits the number has, without high bits of 0.
+    fn bits(&self) -> usize {
+        let highest = self.limbs.last();
+        let unused = highest.map_or(0, |limb| limb.leading_zeros() as usize);
+        LIMB_BITS * self.limbs.len() - unused
     }
 }
 
@@ -116,7 +111,8 @@ mod tests {
 
     fn natural(value: u128) -> Natural {
         let high = Natural::from((value >> 64) as u64);
-        high.shifted_left(64).plus(&Natural::from(value as u64))
+        let low = Natural::from(value as u64);
+        high.times(1 << 32).times(1 << 32).plus(&low)
     }
 
     const SAMPLES: [u128; 9] = [
@@ -142,11 +138,16 @@ mod tests {
             }
             assert_eq!(natural(a).times(1 << 20), natural(a << 20));
             assert_eq!(natural(a).times(1_000_003), natural(a * 1_000_003));
-            for bits in [0, 1, 3, 20, 27] {
-                assert_eq!(natural(a).shifted_left(bits), natural(a << bits));
-            }
-            for bits in [0, 1, 63, 64, 65, 100, 127] {
-                assert_eq!(natural(a).shifted_right(bits), natural(a >> bits));
+        }
+    }
+
+    #[test]
+    fn quotients_are_rounded_down() {
+        for divisor in [1, 7, u64::MAX as u128, 1 << 64, (1 << 100) - 1] {
+            for number in SAMPLES {
+                if let Ok(quotient) = u64::try_from(number / divisor) {
+                    assert_eq!(natural(number).quotient(&natural(divisor)), quotient);
+                }
             }
         }
     }
@@ -154,12 +155,15 @@ mod tests {
     #[test]
     fn far_beyond_128_bits() {
         let one = Natural::from(1);
-        let power = one.shifted_left(10_000);
+        let power = (0..1_000).fold(one.clone(), |power, _| power.times(1_000));
         let below = power.difference(&one);
         assert!(below < power);
         assert_eq!(below.plus(&one), power);
-        assert_eq!(power.shifted_right(10_000), one);
-        assert_eq!(below.shifted_right(10_000), Natural::default());
+        assert_eq!(power.quotient(&power), 1);
+        assert_eq!(below.quotient(&power), 0);
+        assert_eq!(power.times(1_650_000).quotient(&power), 1_650_000);
+        let just_below = power.times(1_650_000).difference(&one);
+        assert_eq!(just_below.quotient(&power), 1_649_999);
         assert_eq!(below.times(7).plus(&Natural::from(7)), power.times(7));
     }
 
@@ -167,10 +171,7 @@ mod tests {
     fn zero_has_no_limbs() {
         assert_eq!(Natural::from(0), Natural::default());
         assert_eq!(Natural::from(5).times(0), Natural::default());
-        assert_eq!(
-            Natural::from(5).difference(&Natural::from(5)).to_u64(),
-            Some(0)
-        );
-        assert_eq!(Natural::from(1).shifted_left(64).to_u64(), None);
+        let five = Natural::from(5);
+        assert_eq!(five.difference(&five), Natural::default());
     }
 }

@@ -70,8 +70,8 @@ impl Player {
                 writeln!(out, "timer")?;
                 self.write_timer(out)
             }
-            Call::Sample { round_trip } => {
-                writeln!(out, "sample {}", number(&self.timer.sample(round_trip)))?;
+            Call::Sample(sample) => {
+                writeln!(out, "sample {}", number(&self.timer.sample(sample)))?;
                 self.write_timer(out)
             }
             Call::Expiry => {
@@ -312,6 +312,7 @@ impl Display for TimerFields<'_> {
 mod tests {
     use super::*;
     use crate::cases::{data, opening, syn, CLOCK, NEXT};
+    use crate::timer::Sample;
 
     fn play_calls(calls: &[Call]) -> String {
         let mut script = Vec::new();
@@ -323,18 +324,21 @@ mod tests {
 
     #[test]
     fn timer_lines() {
+        let sample = |round_trip, expected| Call::Sample(Sample::new(round_trip, expected));
         let calls = [
             Call::Timer,
-            Call::Sample { round_trip: 1_000 },
-            Call::Sample {
-                round_trip: 600_001,
-            },
+            sample(1_000, 16),
+            sample(600_001, 1),
+            sample(1_101, 17),
             Call::Expiry,
+            sample(1_101, 16),
         ];
         let expected = "timer\ntimer-state 0 0 0 1000\n\
-                        sample 0\ntimer-state 1 256000 128000 3001\n\
-                        sample 14\ntimer-state 1 256000 128000 3001\n\
-                        expiry\ntimer-state 1 256000 128000 6002\n";
+                        sample 0\ntimer-state 1 256000 128000 3004\n\
+                        sample 14\ntimer-state 1 256000 128000 3004\n\
+                        sample 14\ntimer-state 1 256000 128000 3004\n\
+                        expiry\ntimer-state 1 256000 128000 6008\n\
+                        sample 0\ntimer-state 1 256202 126404 2980\n";
         assert_eq!(play_calls(&calls), expected);
     }
 

@@ -20,7 +20,7 @@ pub enum Refusal {
     WrongOpeningAck,
     BeyondSendWindow,
     ReceiveWindow,
-    SampleTooLong,
+    Sample,
 }
 
 impl Refusal {
@@ -39,7 +39,7 @@ impl Refusal {
             Refusal::WrongOpeningAck => 11,
             Refusal::BeyondSendWindow => 12,
             Refusal::ReceiveWindow => 13,
-            Refusal::SampleTooLong => 14,
+            Refusal::Sample => 14,
         }
     }
 

@@ -3,6 +3,7 @@
 use crate::connection::Opening;
 use crate::octets::{u16_at, u32_at, u64_at};
 use crate::serial::Seq;
+use crate::timer::Sample;
 
 /// The longest body that a call may have.
 pub const MAX_BODY: usize = 65_664;
@@ -66,9 +67,7 @@ pub enum Call<'a> {
     },
     Expire,
     Timer,
-    Sample {
-        round_trip: u32,
-    },
+    Sample(Sample),
     Expiry,
     Refusal {
         segment: &'a [u8],
@@ -123,9 +122,10 @@ impl<'a> Call<'a> {
             },
             EXPIRE => Call::Expire,
             TIMER => Call::Timer,
-            SAMPLE => Call::Sample {
+            SAMPLE => Call::Sample(Sample {
                 round_trip: body.u32()?,
-            },
+                expected: body.u32()?,
+            }),
             EXPIRY => Call::Expiry,
             REFUSAL => Call::Refusal { segment: body.rest },
             DISTANCE_FROM_C => Call::DistanceFromC {
@@ -162,7 +162,7 @@ impl<'a> Call<'a> {
             Call::Acknowledge { .. } => ACKNOWLEDGE,
             Call::Expire => EXPIRE,
             Call::Timer => TIMER,
-            Call::Sample { .. } => SAMPLE,
+            Call::Sample(_) => SAMPLE,
             Call::Expiry => EXPIRY,
             Call::Refusal { .. } => REFUSAL,
             Call::DistanceFromC { .. } => DISTANCE_FROM_C,
@@ -190,9 +190,13 @@ impl<'a> Call<'a> {
                 out.extend_from_slice(&clock.to_be_bytes());
                 out.extend_from_slice(segment);
             }
-            Call::Sent { count: number }
-            | Call::Window { window: number }
-            | Call::Sample { round_trip: number } => out.extend_from_slice(&number.to_be_bytes()),
+            Call::Sent { count: number } | Call::Window { window: number } => {
+                out.extend_from_slice(&number.to_be_bytes());
+            }
+            Call::Sample(sample) => {
+                out.extend_from_slice(&sample.round_trip.to_be_bytes());
+                out.extend_from_slice(&sample.expected.to_be_bytes());
+            }
             Call::Acknowledge {
                 source,
                 destination,
@@ -366,9 +370,7 @@ mod tests {
             },
             Call::Expire,
             Call::Timer,
-            Call::Sample {
-                round_trip: 600_000,
-            },
+            Call::Sample(Sample::new(600_000, u32::MAX)),
             Call::Expiry,
             Call::Refusal { segment: b"" },
             Call::DistanceFromC { a: u32::MAX, b: 0 },
@@ -409,12 +411,16 @@ mod tests {
     #[test]
     fn bad_calls() {
         let short = [6, 0, 0, 0, 3, 0, 0, 0];
+        let no_n = [11, 0, 0, 0, 4, 0, 0, 0, 9];
+        let short_n = [11, 0, 0, 0, 7, 0, 0, 0, 9, 0, 0, 0];
         let unknown = [16, 0, 0, 0, 0];
         let few_kinds = [2, 0, 0, 0, 2, 2, 8];
         let no_count = [2, 0, 0, 0, 0];
         let mut too_long = vec![1, 0, 1, 0, 0x81];
         too_long.resize(HEAD_LENGTH + MAX_BODY + 1, 0);
-        let scripts: [&[u8]; 5] = [&short, &unknown, &few_kinds, &no_count, &too_long];
+        let scripts: [&[u8]; 7] = [
+            &short, &no_n, &short_n, &unknown, &few_kinds, &no_count, &too_long,
+        ];
         for script in scripts {
             assert_eq!(Calls::new(script).next(), Some(Err(Bad)));
         }

@@ -8,7 +8,7 @@ use crate::compare::written_by;
 use crate::exact::{ExactTimer, Lateness, Violation, LATENESS_LIMIT, LATENESS_SCALE};
 use crate::random::Random;
 use crate::script::Call;
-use crate::timer::{Timer, MAX_SAMPLE};
+use crate::timer::Timer;
 use crate::timer_list::{RandomList, TimerCall};
 
 const LONGEST_LIST: u64 = 3_000;
@@ -179,8 +179,8 @@ fn check_list(
     for (at, (&call, &rto)) in list.iter().zip(rtos).enumerate() {
         match call {
             TimerCall::Expiry => expired = true,
-            TimerCall::Sample(round_trip) if round_trip <= MAX_SAMPLE => {
-                exact.sample(round_trip);
+            TimerCall::Sample(sample) if sample.is_allowed() => {
+                exact.sample(sample);
                 expired = false;
             }
             TimerCall::Sample(_) => {}
@@ -204,6 +204,7 @@ fn check_list(
 #[cfg(test)]
 mod tests {
     use super::*;
+    use crate::timer::Sample;
 
     fn check(
         list: &[TimerCall],
@@ -215,21 +216,26 @@ mod tests {
         Ok(summary)
     }
 
-    const LIST: [TimerCall; 6] = [
-        TimerCall::Sample(600_001),
-        TimerCall::Sample(1_000),
-        TimerCall::Sample(1_001),
+    const fn sample(round_trip: u32, expected: u32) -> TimerCall {
+        TimerCall::Sample(Sample::new(round_trip, expected))
+    }
+
+    const LIST: [TimerCall; 7] = [
+        sample(600_001, 1),
+        sample(1_000, 5),
+        sample(1_001, 2),
         TimerCall::Expiry,
-        TimerCall::Sample(600_001),
-        TimerCall::Sample(1_000),
+        sample(600_001, 1),
+        sample(1_000, 17),
+        sample(1_000, 3),
     ];
 
     #[test]
     fn the_claim_is_checked_where_it_applies() {
         let summary = check(&LIST, TimerCall::apply, LATENESS_LIMIT).unwrap();
-        assert_eq!((summary.calls, summary.checked), (6, 3));
-        // After the last sample the exact value is 544,252/256 ms, and the timer stands at 2,127.
-        assert_eq!(summary.overall, Extremes(Some((224_000, 260_000))));
+        assert_eq!((summary.calls, summary.checked), (7, 3));
+        // The exact values are 768,000, 704,144 and 666,804.67/256 ms, and the timer stands at 3,004, 2,755 and 2,609.
+        assert_eq!(summary.overall, Extremes(Some((1_024_000, 1_136_000))));
     }
 
     #[test]
@@ -256,21 +262,68 @@ mod tests {
     }
 
     #[test]
-    fn a_timer_that_forgets_the_allowance_fails() {
-        let unallowed = |call: TimerCall, timer: &mut Timer| {
-            call.apply(timer);
-            let units = timer.smoothed + (4 * timer.variation).max(256);
-            timer.rto = ((units / 256) as u32).clamp(1_000, 60_000);
-        };
-        let failure = check(&LIST, unallowed, LATENESS_LIMIT).unwrap_err();
-        assert_eq!(failure.violation, Violation::Early);
-    }
-
-    #[test]
     fn random_lists_hold() {
         let summary = run(5_000, 1, |list| Ok(own_rtos(list))).unwrap().unwrap();
         assert_eq!(summary.calls, 5_000);
         assert!(summary.checked > 3_000);
+    }
+
+    /// Samples from 10,000 ms on: so many that change by so many ms each, with this N.
+    fn changing(parts: &[(usize, i32, u32)]) -> Vec<TimerCall> {
+        let mut round_trip = 10_000;
+        let mut list = Vec::new();
+        for &(count, change, expected) in parts {
+            for _ in 0..count {
+                round_trip += change;
+                list.push(sample(round_trip as u32, expected));
+            }
+        }
+        list
+    }
+
+    /// S and V lose by rounding almost as much as they can.
+    fn falling() -> Vec<TimerCall> {
+        changing(&[
+            (64, 0, 1),
+            (84, -2, 16),
+            (2_500, -1, 16),
+            (1, 63, 16),
+            (1, -164, 16),
+        ])
+    }
+
+    /// S loses almost as much as it can, and V is above the exact one by that.
+    fn rising() -> Vec<TimerCall> {
+        changing(&[
+            (64, 0, 1),
+            (94, 2, 16),
+            (1_400, 1, 16),
+            (1, 107, 16),
+            (1, 32, 1),
+        ])
+    }
+
+    #[test]
+    fn lists_come_close_to_both_sides() {
+        let extremes = |list: &[TimerCall]| {
+            let summary = check(list, TimerCall::apply, LATENESS_LIMIT).unwrap();
+            summary.between_limits.0.unwrap()
+        };
+        assert_eq!(extremes(&falling()).0, 0);
+        assert!(extremes(&rising()).1 >= 1_538_000);
+    }
+
+    #[test]
+    fn a_timer_with_too_small_an_allowance_fails() {
+        for allowance in [0, 47, 886] {
+            let allowing = |call: TimerCall, timer: &mut Timer| {
+                call.apply(timer);
+                let units = timer.smoothed + (4 * timer.variation).max(256) + allowance;
+                timer.rto = (((units + 255) / 256) as u32).clamp(1_000, 60_000);
+            };
+            let failure = check(&falling(), allowing, LATENESS_LIMIT).unwrap_err();
+            assert_eq!(failure.violation, Violation::Early);
+        }
     }
 
     #[test]

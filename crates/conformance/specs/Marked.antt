@@ -1,8 +1,8 @@
--- Document 01's "Marked cases M1 to M12" as one table: `worked` is what the definitions give for each case, `paper` what document 01 gives,
--- and `marked` says that the two are equal. Every record in it is one that an opening gave, or an opening and the segments after it.
+-- Document 01's "Marked cases M1 to M12" as one table: `worked` is what the definitions give for each case, `paper` what document 01 gives, of
+-- M11 and M12 with document 02's margin, and `marked` says that the two are equal. Every record in it is one that an opening gave, or an opening and the segments after it.
 use Prim.Native.Nat.{ℕ, _+_, _-_, _^_}
 use mathlib.Core.Bool.{Bool, true, false}
-use mathlib.Core.List.{List, [], _∷_, _++_, map}
+use mathlib.Core.List.{List, [], _∷_, _++_}
 use mathlib.Core.Option.{Option·elim}
 use mathlib.Core.Path.{_≡_, refl, ap, _∙_}
 use lib.Dec.{ltb}
@@ -106,11 +106,11 @@ worked M9 = octets (optionOctets (run (opened permitted) (at 5500 3500 ∷ [])) 
 worked M10 =
     let k = run (opened []) (at 5000 500 ∷ at 6000 500 ∷ at 7000 500 ∷ at 8000 500 ∷ []) in
     number (k .receive .nxt .0) ∷ ranges (rangesOf (k .receive .held)) ∷ []
--- the timer's milliseconds
-worked M11 = number (rto.run newTimer (rto.sample 1000 ∷ []) .timeout) ∷ []
+-- the timer's milliseconds, where N is 1
+worked M11 = number (rto.run newTimer (rto.sample 1000 1 ∷ []) .timeout) ∷ []
 -- S, V and the timer's milliseconds
 worked M12 =
-    let timer = rto.run newTimer (rto.sample 1000 ∷ rto.sample 1001 ∷ []) in
+    let timer = rto.run newTimer (rto.sample 1000 1 ∷ rto.sample 1001 1 ∷ []) in
     number (timer .srtt) ∷ number (timer .rttvar) ∷ number (timer .timeout) ∷ []
 
 pub paper : Case → List Fact
@@ -124,8 +124,8 @@ paper M7 = number 4 ∷ []
 paper M8 = octets (0x01 ∷ 0x01 ∷ 0x08 ∷ 0x0A ∷ 0x00 ∷ 0x00 ∷ 0x00 ∷ 0x01 ∷ 0x00 ∷ 0x00 ∷ 0x00 ∷ 0x02 ∷ []) ∷ []
 paper M9 = octets (0x01 ∷ 0x01 ∷ 0x05 ∷ 0x0A ∷ 0x00 ∷ 0x00 ∷ 0x15 ∷ 0x7C ∷ 0x00 ∷ 0x00 ∷ 0x23 ∷ 0x28 ∷ []) ∷ []
 paper M10 = number 5500 ∷ ranges (range 8000 8500 ∷ range 7000 7500 ∷ range 6000 6500 ∷ []) ∷ []
-paper M11 = number 3001 ∷ []
-paper M12 = number 256032 ∷ number 96064 ∷ number 2502 ∷ []
+paper M11 = number 3004 ∷ []
+paper M12 = number 256032 ∷ number 96064 ∷ number 2505 ∷ []
 
 -- M10 is computed segment by segment, since nothing is shared within one computation: this is the record after the segment at WL1, which
 -- holds ranges of 500 numbers from these on. Whoever unfolds it unfolds all that the cases are computed with.

@@ -4,6 +4,7 @@ pub mod Table
 pub mod Rows
 pub mod PassedOn
 pub mod OnlyTake
+pub mod Samples
 pub mod Taken
 pub mod Changes
 pub mod Keeping

@@ -1,11 +1,13 @@
--- What a take gives, part by part, and when it feeds a sample to the timer (document 01, "What taking does"), of octets and of fields read
--- before. Assumes nothing.
-use mathlib.Core.Bool.{Bool, true, false, cond, _&&_, _||_, and-false, false≢true}
+-- What a take gives, part by part, and which sample it feeds to the timer (document 01, "What taking does", and document 02, P4), of octets and
+-- of fields read before. Assumes nothing.
+use mathlib.Core.Bool.{true, false, cond, _&&_, _||_, and-false, false≢true}
 use mathlib.Core.List.{List, [], _∷_}
 use mathlib.Core.Logic.{_⊎_, inl, inr}
-use mathlib.Core.Option.{some}
+use mathlib.Core.Option.{some, Option·elim}
 use mathlib.Core.Path.{_≡_, refl, sym, ap, subst, _∙_}
-use Prim.Native.Nat.{ℕ}
+use Prim.Native.Nat.{ℕ, _≤_, _<_}
+use lib.Dec.{leb}
+use borrow.Author.Tests.{le-leb, lt-leb}
 use Rattle.laws.specs.Lists.{filter}
 use Rattle.laws.proofs.Choices.{either}
 use Rattle.serial.specs.Serial.{offsetOf, roundTrip, stampAt}
@@ -16,6 +18,8 @@ use Rattle.receive.specs.Taking as receive
 use Rattle.receive.specs.Window.{finInside, lacksRoom, newPart}
 use Rattle.receive.proofs.Coverage.{received-exactly}
 use Rattle.rto.specs.Calls as rto
+use Rattle.rto.specs.Timer.{isAccepted, sampledBy}
+use Rattle.rto.proofs.Refusal.{accepted-moves, refusal-leaves}
 use Rattle.segment.specs.Options.{blockList}
 use Rattle.segment.specs.declared.Segment.{Segment}
 use Rattle.segment.specs.declared.Timestamps.{Timestamps}
@@ -26,10 +30,11 @@ use Rattle.connection.specs.Numbers.{take}
 use Rattle.connection.specs.Record.{Sound}
 use Rattle.connection.specs.Opening.{tsvalOf}
 use Rattle.connection.specs.Verdict.{rows}
-use Rattle.connection.specs.Taking.{fedBy, listed, recordAfter, sampleOf}
+use Rattle.connection.specs.Taking.{expectedSamples, fedBy, listed, recordAfter, sampleOf}
 use Rattle.connection.specs.Arriving.{Arrival, arrivingRead, isTake, takenBy}
-use Rattle.connection.specs.Calls.{Incoming, arrived, fieldsOf, read, unread}
+use Rattle.connection.specs.Calls.{Incoming, arrival, arrived, fieldsOf, read, timerCall, unread}
 use Rattle.connection.proofs.Incoming.{arrived-by-fields}
+use Rattle.connection.proofs.Samples.{record-accepts}
 use Rattle.connection.proofs.OnlyTake.{only-take, only-take-read}
 use Rattle.connection.proofs.Table.{arriving-cases}
 
@@ -47,29 +52,29 @@ pub record Takes (k : Connection) (clock : ℕ) (s : Segment) (a : Arrival) : Ty
   pub sack-stays : a .connection .sack ≡ k .sack
   pub mss-stays : a .connection .mss ≡ k .mss
 
--- what a take feeds to the timer: the sample R = (our timestamp - TSecr) mod 2^32, or nothing
-module _ (k : Connection) (clock : ℕ) (s : Segment) where
-  abbrev by : Bool → Bool → Timestamps → List rto.Call
-  by active new stamps = cond (active && new) (sampleOf (k .timestamping) clock stamps) []
+-- R = (our timestamp - TSecr) mod 2^32, and N by the octets outstanding before the ACK, (NXT - UNA) mod 2^32, and the record's MSS
+abbrev pub roundTripIn : Connection → ℕ → Stamp → ℕ
+roundTripIn k clock echoed = roundTrip (stampAt clock (k .timestamping .offset)) (echoed .0)
 
+abbrev pub expectedBefore : Connection → ℕ
+expectedBefore k = expectedSamples (offsetOf (k .send .una .0) (k .send .nxt .0)) (k .mss)
+
+-- what a take feeds to the timer: the sample R with its N, or nothing
+module _ (k : Connection) (clock : ℕ) (s : Segment) where
   feeds-one : (value echoed : Stamp) → k .timestamping .active ≡ true → s .options .timestamps ≡ Timestamps.Pair value echoed
       → send.isNew (k .send) (s .ack .0) ≡ true
-      → fedBy k clock s ≡ rto.sample (roundTrip (stampAt clock (k .timestamping .offset)) (echoed .0)) ∷ []
+      → fedBy k clock s ≡ rto.sample (roundTripIn k clock echoed) (expectedBefore k) ∷ []
   unfolding fedBy sampleOf
-  feeds-one value echoed active stamps new =
-      ap (λ b. by b (send.isNew (k .send) (s .ack .0)) (s .options .timestamps)) active
-      ∙ (ap (λ b. by true b (s .options .timestamps)) new ∙ ap (by true true) stamps)
+  feeds-one value echoed active stamps new = rw (active, new, stamps) refl
 
   feeds-none : (k .timestamping .active ≡ false) ⊎ ((s .options .timestamps ≡ Timestamps.Absent) ⊎ (send.isNew (k .send) (s .ack .0) ≡ false))
       → fedBy k clock s ≡ []
   unfolding fedBy sampleOf
-  feeds-none (inl off) = ap (λ b. by b (send.isNew (k .send) (s .ack .0)) (s .options .timestamps)) off
+  feeds-none (inl off) = rw off refl
   feeds-none (inr (inl none-here)) =
-      ap (by (k .timestamping .active) (send.isNew (k .send) (s .ack .0))) none-here
-      ∙ either (λ (l : List rto.Call). l ≡ []) (k .timestamping .active && send.isNew (k .send) (s .ack .0)) [] [] (λ _. refl) (λ _. refl)
-  feeds-none (inr (inr old)) =
-      ap (λ b. by (k .timestamping .active) b (s .options .timestamps)) old
-      ∙ ap (λ b. cond b (sampleOf (k .timestamping) clock (s .options .timestamps)) []) (and-false (k .timestamping .active))
+      rw none-here
+      (either (λ (l : List rto.Call). l ≡ []) (k .timestamping .active && send.isNew (k .send) (s .ack .0)) [] [] (λ _. refl) (λ _. refl))
+  feeds-none (inr (inr old)) = rw (old, and-false (k .timestamping .active)) refl
 
 module _ (k : Connection) (clock : ℕ) (i : Incoming) (s : Segment) (is : fieldsOf i ≡ some s)
     (takes : isTake (arrived k clock i .decision .action) ≡ true) where
@@ -125,12 +130,30 @@ module _ (k : Connection) (clock : ℕ) (i : Incoming) (s : Segment) (is : field
       ∙ (received-exactly (k .receive) (sound .receive-sound) (s .seq .0) (s .len) room x
       ∙ ap (λ (a : Arrival). isReceived nxt (k .receive) x || liesIn (a .part) (offsetOf nxt x)) (sym taken-as))
 
-  -- a new ACK with timestamps in force gives a sample R = (our timestamp - TSecr) mod 2^32, which is fed to the timer
-  pub sample-fed : (value echoed : Stamp) → k .timestamping .active ≡ true → s .options .timestamps ≡ Timestamps.Pair value echoed
-      → send.isNew (k .send) (s .ack .0) ≡ true
-      → arrived k clock i .connection .timer
-      ≡ rto.called (k .timer) (rto.sample (roundTrip (stampAt clock (k .timestamping .offset)) (echoed .0)))
-  sample-fed value echoed active stamps new = timer-after ∙ ap (rto.run (k .timer)) (feeds-one k clock s value echoed active stamps new)
+  -- a new ACK with timestamps in force gives a sample, which is fed to the timer
+  module _ (value echoed : Stamp) (active : k .timestamping .active ≡ true) (stamps : s .options .timestamps ≡ Timestamps.Pair value echoed)
+      (new : send.isNew (k .send) (s .ack .0) ≡ true) where
+    -- as one call in the list of calls on the timer
+    pub sample-called : timerCall k (arrival clock i) ≡ rto.sample (roundTripIn k clock echoed) (expectedBefore k) ∷ []
+    unfolding Option·elim
+    sample-called = rw (takes, is) (feeds-one k clock s value echoed active stamps new)
+
+    pub sample-fed : arrived k clock i .connection .timer
+        ≡ rto.called (k .timer) (rto.sample (roundTripIn k clock echoed) (expectedBefore k))
+    sample-fed = timer-after ∙ ap (rto.run (k .timer)) (feeds-one k clock s value echoed active stamps new)
+
+    accepts : isAccepted (roundTripIn k clock echoed) (expectedBefore k) ≡ leb (roundTripIn k clock echoed) 600000
+    accepts = record-accepts (offsetOf (k .send .una .0) (k .send .nxt .0)) (k .mss) (roundTripIn k clock echoed)
+
+    -- above 600,000 it is left out, and no other is
+    pub sample-counts : roundTripIn k clock echoed ≤ 600000
+        → arrived k clock i .connection .timer ≡ sampledBy (k .timer) (roundTripIn k clock echoed) (expectedBefore k)
+    sample-counts most =
+        sample-fed ∙ accepted-moves (k .timer) (roundTripIn k clock echoed) (expectedBefore k) (accepts ∙ le-leb _ 600000 most)
+
+    pub sample-left-out : 600000 < roundTripIn k clock echoed → arrived k clock i .connection .timer ≡ k .timer
+    sample-left-out above =
+        sample-fed ∙ refusal-leaves (k .timer) (roundTripIn k clock echoed) (expectedBefore k) (accepts ∙ lt-leb _ 600000 above)
 
   -- where one of the three is missing the timer stays
   pub sample-not-fed :

@@ -1,5 +1,5 @@
--- One case for each verdict and each refusal number that the calls of this crate give, two in which 31 holds beside 29 and beside 30, and the
--- windows of a short run, computed from the definitions under one statement, of records that an opening gave, or an opening and the segments
+-- One case for each verdict and each refusal number that the calls of this crate give, two in which 31 holds beside 29 and beside 30, the
+-- windows of a short run, and a sample with its N, computed from the definitions under one statement, of records that an opening gave, or an opening and the segments
 -- after it. Flags are 2 for SYN, 4 for RST, 16 for ACK.
 use Prim.Native.Nat.{ℕ, _+_, _*_, _/_}
 use mathlib.Core.Bool.{true, false}
@@ -30,7 +30,7 @@ use Rattle.connection.specs.Verdict.{rows}
 use Rattle.connection.specs.Taking.{fedBy, recordAfter, sampleOf}
 use Rattle.connection.specs.Arriving.{arriving, arrivingRead, judged, settled, takenBy}
 use Rattle.connection.specs.Operations.{sent, windowOpened}
-use Rattle.connection.specs.Calls.{Call, Opened, arrival, recordsAfter, run, timerCalls, unread}
+use Rattle.connection.specs.Calls.{Call, Incoming, Opened, arrival, openedBy, recordsAfter, run, sending, timerCalls, unread}
 
 -- octets of a segment: SEQ, ACK, flags, window, options and payload
 abbrev pub octets : ℕ → ℕ → ℕ → ℕ → List ℕ → ℕ → List ℕ
@@ -142,15 +142,22 @@ numbers =
     ∷ (windowOpened base 65534 .number, 13)
     ∷ []
 
--- a segment whose sample is 57 ms
+-- the SYN of a peer that offers an MSS of 100 and a window of 1,000, and the record that it opens
+abbrev offering : Incoming
+offering = unread (octets 4999 0 2 1000 (2 ∷ 4 ∷ 0 ∷ 100 ∷ stamps 50 0) 0)
+
+abbrev pub sender : Connection
+sender = openedBy (own 65535) 100 offering .connection
+
+-- 401 octets are outstanding, our SYN among them, when a segment acknowledges 101 of them; its sample is 57 ms
 abbrev pub timed : List Call
-timed = arrival 150 (unread (octets 5000 1001 16 9 (stamps 60 100) 0)) ∷ []
+timed = sending 400 ∷ arrival 150 (unread (octets 5000 1101 16 1000 (stamps 60 100) 0)) ∷ []
 
 pub cases : (map (λ c. c .0) arrivals ≡ map (λ c. c .1) arrivals)
     × (map (λ c. c .0) numbers ≡ map (λ c. c .1) numbers)
     × (opens 65535 0 2 .connection ≡ base)
     × (run base (ten 6000 ∷ ten 6100 ∷ ten 6200 ∷ ten 6300 ∷ ten 6400 ∷ ten 6500 ∷ ten 6600 ∷ ten 6700 ∷ []) ≡ full)
-    × (timerCalls base timed ≡ rto.sample 57 ∷ [])
+    × (timerCalls sender timed ≡ rto.sample 57 3 ∷ [])
     × (map (λ (k : Connection). k .send .window) (base ∷ recordsAfter base rising) ≡ 9 ∷ 20 ∷ 5 ∷ [])
     × (run base rising .send .largest ≡ 20)
 unfolding arrivals numbers distanceOf offsetOf bigEndian numberAt exceedLimits inForce shiftsInForce heldOf isOutOfOrder joined leftOf meets noRoom
@@ -166,5 +173,8 @@ cases = (refl, refl, refl, refl, refl, refl, refl)
 pub base-opened : Opened base
 base-opened = record { own = own 65535; clock = 100; syn = unread (octets 4999 0 2 9 (stamps 50 0) 0); opens = cases .2 }
 
-pub timed-feeds : timerCalls base timed ≡ rto.sample 57 ∷ []
+pub sender-opened : Opened sender
+sender-opened = record { own = own 65535; clock = 100; syn = offering; opens = refl }
+
+pub timed-feeds : timerCalls sender timed ≡ rto.sample 57 3 ∷ []
 timed-feeds = cases .4

@@ -3,7 +3,7 @@ ghost use mathlib.Core.Path.{_≡_};
 ghost use Rattle.rto.specs.Calls.{run};
 ghost use Rattle.connection.specs.Opening.{ackFieldsOf, tsvalOf};
 ghost use Rattle.connection.specs.Record.{Sound};
-ghost use Rattle.connection.specs.Taking.{fedBy, recordAfter, sampleOf};
+ghost use Rattle.connection.specs.Taking.{expectedSamples, fedBy, recordAfter, sampleOf, twoSegments};
 use super::Connection;
 use rto::Timer;
 use segment::Segment;
@@ -11,6 +11,9 @@ use segment::Timestamps;
 use send::AckFields;
 use timestamps::Timestamping;
 use timestamps::Tsval;
+
+// An MSS below this counts as this where samples are expected.
+const MIN_MSS: u16 = 64;
 
 // The fields of a segment that the send side takes.
 pub fn ack_fields_of(s: Segment) -> AckFields
@@ -32,14 +35,39 @@ pub fn tsval_of(timestamps: Timestamps) -> Tsval
     }
 }
 
-// The timer after the sample that an echoed timestamp gives.
-fn fed(timer: Timer, t: Timestamping, clock: u64, timestamps: Timestamps) -> Timer
-    ensures { λ r. ⌜ r ≡ run timer (sampleOf t clock timestamps) ⌝ }
+// How many samples a round trip is expected to give (RFC 7323's ExpectedSamples): one for each two segments outstanding.
+fn expected_samples(outstanding: u32, mss: u16) -> u32
+    ensures { λ r. ⌜ r ≡ expectedSamples outstanding mss ⌝ }
+{
+    let octets = outstanding as u64;
+    let unit = two_segments(mss);
+    if octets <= unit {
+        return 1;
+    }
+    if 15 * unit < octets {
+        return 16;
+    }
+    ((octets + (unit - 1)) / unit) as u32
+}
+
+fn two_segments(mss: u16) -> u64
+    ensures { λ r. ⌜ r ≡ twoSegments mss ⌝ }
+{
+    if mss < MIN_MSS {
+        2 * (MIN_MSS as u64)
+    } else {
+        2 * (mss as u64)
+    }
+}
+
+// The timer after the sample that an echoed timestamp gives, where a round trip is expected to give so many.
+fn fed(timer: Timer, t: Timestamping, clock: u64, timestamps: Timestamps, expected: u32) -> Timer
+    ensures { λ r. ⌜ r ≡ run timer (sampleOf t clock timestamps expected) ⌝ }
 {
     let Timestamps::Pair(_, echoed) = timestamps else {
         return timer;
     };
-    timer.feed(t.sample(clock, echoed))
+    timer.feed(t.sample(clock, echoed), expected)
 }
 
 // The timer after a take: a new ACK with timestamps gives a sample.
@@ -54,7 +82,9 @@ fn timer_after(k: Connection, clock: u64, s: Segment) -> Timer
     if k.send.is_new(s.ack) {
         let options = s.options;
         let timestamps = options.timestamps;
-        return fed(timer, timestamping, clock, timestamps);
+        let outstanding = k.send.nxt.offset(k.send.una);
+        let expected = expected_samples(outstanding, k.mss);
+        return fed(timer, timestamping, clock, timestamps, expected);
     }
     timer
 }

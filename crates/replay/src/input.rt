@@ -50,10 +50,10 @@ fn least_length(call: u8, body: &[u8]) -> usize {
         1 | 9 | 10 | 12 | 13 => 0,
         // The count of kinds, and the kinds.
         2 => 1 + octets::read_u8(body, 0) as usize,
-        3 | 14 => 8,
+        3 | 11 | 14 => 8,
         4 => 22,
         5 => 8,
-        6 | 7 | 11 => 4,
+        6 | 7 => 4,
         8 => 12,
         15 => 16,
         _ => MAX_BODY + 1,

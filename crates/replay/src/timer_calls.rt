@@ -23,7 +23,7 @@ fn after(timer: Timer, call: u8, body: &[u8]) -> Timer {
             text::word(b"timer");
             Timer::new()
         }
-        11 => sample(timer, octets::read_u32(body, 0)),
+        11 => sample(timer, octets::read_u32(body, 0), octets::read_u32(body, 4)),
         _ => {
             text::word(b"expiry");
             timer.expire()
@@ -31,8 +31,8 @@ fn after(timer: Timer, call: u8, body: &[u8]) -> Timer {
     }
 }
 
-fn sample(timer: Timer, rtt: u32) -> Timer {
-    let answer = timer.sample(rtt);
+fn sample(timer: Timer, rtt: u32, expected: u32) -> Timer {
+    let answer = timer.sample(rtt, expected);
     text::start(b"sample", answer.number());
     match answer {
         SampleAnswer::Moved(moved) => moved,

@@ -1,5 +1,6 @@
 -- What the operations on fractions do to whole numbers over one denominator. Assumes nothing.
 use Prim.Native.Nat.{ℕ, _*_, _≤_, _<_}
+use mathlib.Core.Logic.{_↔_}
 use mathlib.Core.Path.{_≡_, sym, ap, _∙_}
 use native.Mathlib.Nat.{le-of-mul-le-mul-right, lt-of-mul-lt-mul-right, mul-comm, mul-le-mul-left, mul-lt-mul-of-pos-left, mul-pos}
 use native.Mathlib.Omega.{arith}
@@ -19,13 +20,17 @@ module _ {a : Fraction} {n d : ℕ} (h : Is a n d) where
   pub widened : (k e : ℕ) → e ≡ k * d → Is a (k * n) e
   widened k e is = record { same = rw is (omega (arith, ap (λ (z : ℕ). k * z) (h .same))); proper = h .proper }
 
-  pub at-most : 0 < d → (k : ℕ) → n ≤ k * d → AtMost a (whole k)
-  at-most pos k le =
-      le-of-mul-le-mul-right {m = a .num * 1} {n = k * a .den} {k = d} (omega (arith, h .same, mul-le-mul-left (a .den) le)) pos
+  pub at-most-exactly : 0 < d → (k : ℕ) → AtMost a (whole k) ↔ n ≤ k * d
+  at-most-exactly pos k = (
+    λ le. le-of-mul-le-mul-right {m = n} {n = k * d} {k = a .den} (omega (arith, h .same, mul-le-mul-left d le)) (h .proper),
+    λ le. le-of-mul-le-mul-right {m = a .num * 1} {n = k * a .den} {k = d} (omega (arith, h .same, mul-le-mul-left (a .den) le)) pos,
+  )
 
-  pub below : (k : ℕ) → k * d < n → Below (whole k) a
-  below k lt =
-      lt-of-mul-lt-mul-right d {m = k * a .den} {n = a .num * 1} (omega (arith, h .same, mul-lt-mul-of-pos-left lt (h .proper)))
+  pub below-exactly : 0 < d → (k : ℕ) → Below (whole k) a ↔ k * d < n
+  below-exactly pos k = (
+    λ lt. lt-of-mul-lt-mul-right (a .den) {m = k * d} {n = n} (omega (arith, h .same, mul-lt-mul-of-pos-left lt pos)),
+    λ lt. lt-of-mul-lt-mul-right d {m = k * a .den} {n = a .num * 1} (omega (arith, h .same, mul-lt-mul-of-pos-left lt (h .proper))),
+  )
 
 -- f spreads over a factor, as a sum, a difference, a larger and a smaller do
 module _ (f : ℕ → ℕ → ℕ) (spread : (k x y : ℕ) → k * f x y ≡ f (k * x) (k * y)) where

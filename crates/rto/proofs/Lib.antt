@@ -8,4 +8,5 @@ pub mod Value
 pub mod Sampling
 pub mod Doubling
 pub mod Sound
+pub mod Claim
 pub mod Bound

@@ -1,6 +1,6 @@
 -- A weighted mean that is rounded down, beside the same mean in fractions, for any weight 1/c. The whole numbers are w, x and q, the
 -- fractions p/d and y/d. Assumes nothing.
-use Prim.Native.Nat.{ℕ, suc, _+_, _-_, _*_, _≤_, _<_, min, max}
+use Prim.Native.Nat.{ℕ, suc, _+_, _-_, _*_, _/_, _≤_, _<_, min, max}
 use mathlib.Core.Path.{_≡_, ap}
 use native.Mathlib.Nat.{mul-le-mul-left, mul-sub, div-lt-iff-lt-mul, div-mul-le-self, lt-div-mul-add}
 use native.Mathlib.Omega.{arith}
@@ -21,21 +21,24 @@ mul-min d a b =
 pub mul-between : (d a b : ℕ) → d * between a b ≡ between (d * a) (d * b)
 mul-between d a b = omega (arith, mul-sub d a b, mul-sub d b a)
 
+-- q is floor(x/c)
+pub record Floor (x c q : ℕ) : Type 0 where
+  pub low : c * q ≤ x
+  pub high : x < c * q + c
+
 -- q is the mean of w and x, in which x weighs 1/c, rounded down
-pub record Mean (c w x q : ℕ) : Type 0 where
-  pub low : c * q ≤ (c - 1) * w + x
-  pub high : (c - 1) * w + x < c * q + c
+abbrev pub Mean : ℕ → ℕ → ℕ → ℕ → Type 0
+Mean c w x q = Floor ((c - 1) * w + x) c q
 
 module _ (c : ℕ) (pos : 0 < c) where
   one-more : c ≡ suc (c - 1)
   one-more = omega arith
 
+  pub floor-is : (x : ℕ) → Floor x c (x / c)
+  floor-is x = record { low = omega (arith, div-mul-le-self x c); high = omega (arith, lt-div-mul-add {a = x} pos) }
+
   pub mean-is : (w x : ℕ) → Mean c w x (mean c w x)
-  mean-is w x =
-      record {
-        low = omega (arith, div-mul-le-self ((c - 1) * w + x) c);
-        high = omega (arith, lt-div-mul-add {a = (c - 1) * w + x} pos);
-      }
+  mean-is w x = floor-is ((c - 1) * w + x)
 
   -- A mean is at most m where both values are.
   pub mean-most : (w x m : ℕ) → w ≤ m → x ≤ m → mean c w x ≤ m

@@ -30,22 +30,24 @@ sound-estimated s v hs hv =
       unset = λ e. absurd (false≢true (sym e));
     }
 
-sound-sampled : (t : Timer) (r : ℕ) → Sound t → 256 * r ≤ 153600000 → Sound (sampledBy t r)
-sound-sampled t r h most = go (t .sampled)
+sound-sampled : (t : Timer) (r n : ℕ) → Sound t → r ≤ 600000 → 1 ≤ n → Sound (sampledBy t r n)
+sound-sampled t r n h most least = go (t .sampled)
   where
-    go : (b : Bool) → Sound (cond b (later (t .srtt) (t .rttvar) r) (first r))
+    go : (b : Bool) → Sound (cond b (later (t .srtt) (t .rttvar) r n) (first r))
     go true =
-        sound-estimated (nextSrtt (t .srtt) r) (nextRttvar (t .srtt) (t .rttvar) r)
-        (mean-most 8 (omega arith) (t .srtt) (256 * r) 153600000 (omega arith) (omega arith))
-        (mean-most 4 (omega arith) (t .rttvar) (apart (t .srtt) (256 * r)) 153600000 (omega arith) (omega arith))
+        sound-estimated (nextSrtt (t .srtt) r n) (nextRttvar (t .srtt) (t .rttvar) r n)
+        (mean-most (8 * n) (omega arith) (t .srtt) (256 * r) 153600000 (omega arith) (omega arith))
+        (mean-most (4 * n) (omega arith) (t .rttvar) (apart (t .srtt) (256 * r)) 153600000 (omega arith) (omega arith))
     go false = sound-estimated (256 * r) (128 * r) (omega arith) (omega arith)
 
 pub sound-called : (t : Timer) (c : Call) → Sound t → Sound (called t c)
-sound-called t (sample r) h = pick (isAccepted r) refl
+sound-called t (sample r n) h = pick (isAccepted r n) refl
   where
-    pick : (b : Bool) → isAccepted r ≡ b → Sound (called t (sample r))
-    pick true accepted = rw (accepted-moves t r accepted) (sound-sampled t r h (accepted-exactly r .0 accepted))
-    pick false refused = rw (refusal-leaves t r refused) h
+    pick : (b : Bool) → isAccepted r n ≡ b → Sound (called t (sample r n))
+    pick true accepted =
+        let within = accepted-exactly r n .0 accepted in
+        rw (accepted-moves t r n accepted) (sound-sampled t r n h (within .0) (within .1 .0))
+    pick false refused = rw (refusal-leaves t r n refused) h
 sound-called t expiry h =
     record {
       srtt-most = h .srtt-most;

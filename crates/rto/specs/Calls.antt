@@ -5,14 +5,14 @@ use mathlib.Core.Option.{Option·getD}
 use Rattle.rto.specs.declared.Timer.{Timer}
 use Rattle.rto.specs.Timer.{answered, expired}
 
--- a round-trip sample in ms, or an expiry
+-- a round-trip sample R in ms with its N, or an expiry
 pub data Call : Type 0 where
-  sample : ℕ → Call
+  sample : ℕ → ℕ → Call
   expiry : Call
 
 -- a refused sample leaves the timer as it was
 abbrev pub called : Timer → Call → Timer
-called t (sample r) = Option·getD (answered t r .timer) t
+called t (sample r n) = Option·getD (answered t r n .timer) t
 called t expiry = expired t
 
 -- each call gets the timer as the last left it

@@ -1,4 +1,5 @@
--- The retransmission timer (document 01, "The timer"). S and V are in 1/256 ms, a sample R and the timer's value in ms.
+-- The retransmission timer (document 01, "The timer", and document 02, P4). S and V are in 1/256 ms, a sample R and the timer's value in ms. The
+-- N that a sample brings is RFC 7323's ExpectedSamples: how many samples a round trip is expected to give.
 use mathlib.Core.Bool.{Bool, true, false, cond, _&&_}
 use mathlib.Core.Option.{Option, none, some}
 use mathlib.Core.Path.{_≡_}
@@ -20,20 +21,24 @@ apart a b = (a - b) + (b - a)
 abbrev pub mean : ℕ → ℕ → ℕ → ℕ
 mean c old x = ((c - 1) * old + x) / c
 
--- later, with the old S in both: V = floor((3V + |S - 256R|)/4), S = floor((7S + 256R)/8)
-abbrev pub nextRttvar : ℕ → ℕ → ℕ → ℕ
-nextRttvar s v r = mean 4 v (apart s (256 * r))
+-- later, with the old S in both: V = floor(((4N-1)V + |S - 256R|)/(4N)), S = floor(((8N-1)S + 256R)/(8N))
+abbrev pub nextRttvar : ℕ → ℕ → ℕ → ℕ → ℕ
+nextRttvar s v r n = mean (4 * n) v (apart s (256 * r))
 
-abbrev pub nextSrtt : ℕ → ℕ → ℕ
-nextSrtt s r = mean 8 s (256 * r)
+abbrev pub nextSrtt : ℕ → ℕ → ℕ → ℕ
+nextSrtt s r n = mean (8 * n) s (256 * r)
 
--- S + max(256, 4V) + 47
+-- S + max(256, 4V) + 887
 abbrev pub withMargin : ℕ → ℕ → ℕ
-withMargin s v = s + max 256 (4 * v) + 47
+withMargin s v = s + max 256 (4 * v) + 887
 
--- the least whole ms not below n/256
+-- x/c rounded up
+abbrev pub roundedUp : ℕ → ℕ → ℕ
+roundedUp x c = (x + (c - 1)) / c
+
+-- the least whole ms not below x/256
 abbrev pub wholeMs : ℕ → ℕ
-wholeMs n = (n + 255) / 256
+wholeMs x = roundedUp x 256
 
 -- raised to 1,000 ms or cut to 60,000 ms
 abbrev pub limited : ℕ → ℕ
@@ -46,29 +51,29 @@ timeoutOf s v = limited (wholeMs (withMargin s v))
 abbrev pub estimatedBy : ℕ → ℕ → Timer
 estimatedBy s v = record { srtt = s; rttvar = v; sampled = true; timeout = timeoutOf s v }
 
--- the first sample: S = 256R, V = 128R
+-- the first sample, whatever its N: S = 256R, V = 128R
 abbrev pub first : ℕ → Timer
 first r = estimatedBy (256 * r) (128 * r)
 
-abbrev pub later : ℕ → ℕ → ℕ → Timer
-later s v r = estimatedBy (nextSrtt s r) (nextRttvar s v r)
+abbrev pub later : ℕ → ℕ → ℕ → ℕ → Timer
+later s v r n = estimatedBy (nextSrtt s r n) (nextRttvar s v r n)
 
 -- the timer after a sample that is not refused
-abbrev pub sampledBy : Timer → ℕ → Timer
-sampledBy t r = cond (t .sampled) (later (t .srtt) (t .rttvar) r) (first r)
+abbrev pub sampledBy : Timer → ℕ → ℕ → Timer
+sampledBy t r n = cond (t .sampled) (later (t .srtt) (t .rttvar) r n) (first r)
 
--- E14: a sample above 600,000 ms is refused
-abbrev pub isAccepted : ℕ → Bool
-isAccepted r = leb r 600000
+-- E14: a sample above 600,000 ms is refused, and one with an N outside 1 to 16
+abbrev pub isAccepted : ℕ → ℕ → Bool
+isAccepted r n = leb r 600000 && (leb 1 n && leb n 16)
 
 -- a sample's answer in document 01's terms: 0 and the timer after it, or the refusal's number alone
 pub record Answer : Type 0 where
   pub number : ℕ
   pub timer : Option Timer
 
-abbrev pub answered : Timer → ℕ → Answer
-answered t r =
-    cond (isAccepted r) (record { number = 0; timer = some (sampledBy t r) }) (record { number = 14; timer = none })
+abbrev pub answered : Timer → ℕ → ℕ → Answer
+answered t r n =
+    cond (isAccepted r n) (record { number = 0; timer = some (sampledBy t r n) }) (record { number = 14; timer = none })
 
 -- the same of each case of the answer that the code gives
 abbrev pub shown : SampleAnswer → Answer
@@ -83,7 +88,7 @@ twice ms = min 60000 (2 * ms)
 abbrev pub expired : Timer → Timer
 expired t = record { srtt = t .srtt; rttvar = t .rttvar; sampled = t .sampled; timeout = twice (t .timeout) }
 
--- The timer from S and V (document 01, "The gateway's side"): 0 where one of them is above 153,600,000, which is 256 times E14's limit.
+-- The timer from S and V (document 01, "The gateway's side"): 0 where one of them is above 153,600,000, which is 256 times E14's limit of a sample.
 abbrev pub millisecondsOf : ℕ → ℕ → ℕ
 millisecondsOf s v = cond (leb s 153600000 && leb v 153600000) (timeoutOf s v) 0
 

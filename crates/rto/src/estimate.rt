@@ -4,26 +4,26 @@ ghost use Prim.Native.Nat.{_*_, _^_, _≤_, _<_, max};
 ghost use Rattle.rto.specs.Timer.{apart, limited, mean, nextRttvar, nextSrtt, timeoutOf, twice};
 
 // S after a later sample.
-pub fn next_srtt(srtt: u32, rtt: u32) -> u32
-    requires { ⌜ 256 * rtt < 2 ^ 32 ⌝ }
-    ensures { λ r. ⌜ r ≡ nextSrtt srtt rtt ⌝ }
+pub fn next_srtt(srtt: u32, rtt: u32, expected: u32) -> u32
+    requires { ⌜ (256 * rtt < 2 ^ 32) × ((1 ≤ expected) × (expected ≤ 16)) ⌝ }
+    ensures { λ r. ⌜ r ≡ nextSrtt srtt rtt expected ⌝ }
 {
-    weighted(8, srtt, 256 * rtt)
+    weighted(8 * expected, srtt, 256 * rtt)
 }
 
 // V after a later sample; `srtt` is the S before it.
-pub fn next_rttvar(srtt: u32, rttvar: u32, rtt: u32) -> u32
-    requires { ⌜ 256 * rtt < 2 ^ 32 ⌝ }
-    ensures { λ r. ⌜ r ≡ nextRttvar srtt rttvar rtt ⌝ }
+pub fn next_rttvar(srtt: u32, rttvar: u32, rtt: u32, expected: u32) -> u32
+    requires { ⌜ (256 * rtt < 2 ^ 32) × ((1 ≤ expected) × (expected ≤ 16)) ⌝ }
+    ensures { λ r. ⌜ r ≡ nextRttvar srtt rttvar rtt expected ⌝ }
 {
-    weighted(4, rttvar, difference(srtt, 256 * rtt))
+    weighted(4 * expected, rttvar, difference(srtt, 256 * rtt))
 }
 
 // The value worked out of S and V, in ms.
 pub fn timeout(srtt: u32, rttvar: u32) -> u32
     ensures { λ r. ⌜ r ≡ timeoutOf srtt rttvar ⌝ }
 {
-    limit((srtt as u64 + larger(256, 4 * (rttvar as u64)) + 47 + 255) / 256)
+    limit((srtt as u64 + larger(256, 4 * (rttvar as u64)) + 887 + 255) / 256)
 }
 
 // The value after an expiry, in ms.

@@ -1,4 +1,4 @@
-// The retransmission timer of RFC 6298, by value. The smoothed round-trip time S and its variation V are kept in 1/256 ms.
+// The retransmission timer of RFC 6298, by value, with the weights of RFC 7323, Appendix G. The smoothed round-trip time S and its variation V are kept in 1/256 ms.
 mod estimate;
 
 ghost use mathlib.Core.Path.{_≡_};
@@ -8,6 +8,9 @@ ghost use Rattle.rto.specs.Calls.{called, sample};
 
 // The longest round-trip sample that is not refused, in ms.
 const MAX_SAMPLE: u32 = 600_000;
+
+// The most samples in a round trip that a sample may name.
+const MAX_EXPECTED: u32 = 16;
 
 // The most that samples can make of S or V, in 1/256 ms.
 const MAX_ESTIMATE: u64 = 153_600_000;
@@ -54,22 +57,22 @@ impl Timer {
         }
     }
 
-    // The timer after a round-trip sample of `rtt` ms.
-    pub fn sample(self, rtt: u32) -> SampleAnswer
-        ensures { λ r. ⌜ shown r ≡ answered self rtt ⌝ }
+    // The timer after a round-trip sample of `rtt` ms, where a round trip is expected to give so many samples (RFC 7323's ExpectedSamples).
+    pub fn sample(self, rtt: u32, expected: u32) -> SampleAnswer
+        ensures { λ r. ⌜ shown r ≡ answered self rtt expected ⌝ }
     {
-        if is_accepted(rtt) {
-            SampleAnswer::Moved(self.after(rtt))
+        if is_accepted(rtt, expected) {
+            SampleAnswer::Moved(self.after(rtt, expected))
         } else {
             SampleAnswer::Refused
         }
     }
 
     // The timer after a sample that is left out where it would be refused, as the sample of a segment is.
-    pub fn feed(self, rtt: u32) -> Timer
-        ensures { λ r. ⌜ r ≡ called self (sample rtt) ⌝ }
+    pub fn feed(self, rtt: u32, expected: u32) -> Timer
+        ensures { λ r. ⌜ r ≡ called self (sample rtt expected) ⌝ }
     {
-        match self.sample(rtt) {
+        match self.sample(rtt, expected) {
             SampleAnswer::Moved(moved) => moved,
             SampleAnswer::Refused => self,
         }
@@ -86,16 +89,16 @@ impl Timer {
     }
 
     // The timer after a sample that is not refused.
-    fn after(self, rtt: u32) -> Timer
-        requires { ⌜ isAccepted rtt ≡ true ⌝ }
-        ensures { λ r. ⌜ r ≡ sampledBy self rtt ⌝ }
+    fn after(self, rtt: u32, expected: u32) -> Timer
+        requires { ⌜ isAccepted rtt expected ≡ true ⌝ }
+        ensures { λ r. ⌜ r ≡ sampledBy self rtt expected ⌝ }
     {
         let srtt = self.srtt;
         let rttvar = self.rttvar;
         let sampled = self.sampled;
         if sampled {
-            let smoothed = estimate::next_srtt(srtt, rtt);
-            estimated(smoothed, estimate::next_rttvar(srtt, rttvar, rtt))
+            let smoothed = estimate::next_srtt(srtt, rtt, expected);
+            estimated(smoothed, estimate::next_rttvar(srtt, rttvar, rtt, expected))
         } else {
             estimated(256 * rtt, 128 * rtt)
         }
@@ -116,10 +119,16 @@ pub fn milliseconds(srtt: u64, rttvar: u64) -> u32
 }
 
 // Whether a sample is not refused.
-fn is_accepted(rtt: u32) -> bool
-    ensures { λ r. ⌜ r ≡ isAccepted rtt ⌝ }
+fn is_accepted(rtt: u32, expected: u32) -> bool
+    ensures { λ r. ⌜ r ≡ isAccepted rtt expected ⌝ }
 {
-    rtt <= MAX_SAMPLE
+    if MAX_SAMPLE < rtt {
+        return false;
+    }
+    if expected == 0 {
+        return false;
+    }
+    expected <= MAX_EXPECTED
 }
 
 // A timer whose S and V a sample has set.

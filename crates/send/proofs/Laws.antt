@@ -8,9 +8,10 @@ use native.Mathlib.Omega.{arith}
 use borrow.Author.Tests.{le-ltb, lt-ltb}
 use Rattle.laws.proofs.Choices.{either}
 use Rattle.laws.proofs.Tests.{at-most, below, both, chosen, equal, one}
-use Rattle.serial.specs.Serial.{offsetOf}
+use Rattle.serial.specs.Serial.{movedBy, offsetOf}
 use Rattle.serial.specs.declared.Range.{Range}
 use Rattle.serial.proofs.Distance.{neither-before}
+use Rattle.serial.proofs.Offset.{offset-moved, offset-self}
 use Rattle.serial.proofs.Order.{AtOrBefore, Before, at-or-before-exactly, before-exactly}
 use Rattle.send.specs.Send.{Answer, acknowledged, exceedsWindow, isCurrent, isLater, isListed, isNew, isUnsent, opened, sent, taken, updatesWindow, windowed}
 use Rattle.send.specs.declared.AckFields.{AckFields}
@@ -32,6 +33,12 @@ module _ (iss shift : ℕ) (syn : AckFields) where
   pub opened-without-ack : let s = opened iss shift syn false in (s .una .0 ≡ iss) × (s .wl2 .0 ≡ iss)
   unfolding opened
   opened-without-ack = (refl, refl)
+
+  -- our SYN is the one number outstanding until it is acknowledged
+  pub syn-outstanding : (offsetOf (opened iss shift syn true .una .0) (opened iss shift syn true .nxt .0) ≡ 0)
+      × (offsetOf (opened iss shift syn false .una .0) (opened iss shift syn false .nxt .0) ≡ 1)
+  unfolding opened
+  syn-outstanding = (offset-self (movedBy iss 1), offset-moved iss 1 (omega arith))
 
   -- the shift is the one that is given, or 14 if that is above
   pub opened-shift : (flag : Bool) → shift ≤ 14 → opened iss shift syn flag .shift ≡ shift

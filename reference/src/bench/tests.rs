@@ -123,7 +123,7 @@ fn the_record_after_the_last_call() {
     let segment = &syn().timestamps(Stamp(100), Stamp(0)).build();
     let prepared = script(&[Call::Open { opening, segment }, Call::Sent { count: 9 }]);
     let arrival = SegmentBuilder::data(NEXT, UNA.plus(9), 1).timestamps(Stamp(101), Stamp(9_000));
-    let sum = 1 + 5_001 + 1_010 + 101 + 3_001;
+    let sum = 1 + 5_001 + 1_010 + 101 + 3_004;
     let stream = stream(&prepared, &arrivals(&[arrival]), &[1]);
     assert_eq!(answers(&stream), format!("{}\n", sum));
 }

@@ -10,6 +10,7 @@ use crate::serial::HALF;
 use crate::timer::MIN_RTO;
 
 mod ack_range;
+mod expected_samples;
 
 fn open(opening: &Opening, syn: &SegmentBuilder) -> Connection {
     Connection::open(opening, &syn.build()).unwrap().connection
@@ -339,7 +340,7 @@ fn samples_of_a_record() {
     assert_eq!(connection.timer, Timer::default());
     assert_eq!(connection.snd_una, UNA.plus(1));
     take(&mut connection, &acking(2, 1_000));
-    assert_eq!(connection.timer.rto, 3_001);
+    assert_eq!(connection.timer.rto, 3_004);
 }
 
 #[test]

@@ -43,8 +43,7 @@ impl Generator {
     pub(super) fn continue_ack_run(&mut self, connection: &Connection, run: AckRun) {
         let reached = connection.snd_wl2.offset_of(connection.snd_nxt);
         if !run.ack_is_next {
-            let outstanding = connection.snd_una.offset_of(connection.snd_nxt);
-            let room = connection.snd_wnd.saturating_sub(outstanding);
+            let room = connection.snd_wnd.saturating_sub(connection.outstanding());
             let count = room.min(run.target.saturating_sub(reached));
             self.push(&Call::Sent { count });
         } else if reached == run.target {

@@ -131,8 +131,10 @@ fn random_ack(random: &mut Random, connection: &Connection) -> Seq {
     let (una, nxt) = (connection.snd_una, connection.snd_nxt);
     match random.below(100) {
         0..=24 => una,
-        25..=44 => nxt,
-        45..=70 => una.plus(random.below_u32(una.offset_of(nxt).saturating_add(1))),
+        25..=35 => nxt,
+        // A little of what is outstanding, so that much is left.
+        36..=51 => una.plus((1 + random.below_u32(3)).min(una.offset_of(nxt))),
+        52..=70 => una.plus(random.below_u32(una.offset_of(nxt).saturating_add(1))),
         71..=77 => Seq(beside(random, nxt.0)),
         78..=82 => Seq(beside(random, una.0)),
         83..=84 => Seq(beside(random, nxt.0.wrapping_add(HALF))),

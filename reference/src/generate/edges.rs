@@ -2,7 +2,7 @@
 
 use crate::random::Random;
 use crate::serial::HALF;
-use crate::timer::MAX_SAMPLE;
+use crate::timer::{MAX_EXPECTED, MAX_SAMPLE};
 
 /// The number itself or one beside it.
 pub fn beside(random: &mut Random, number: u32) -> u32 {
@@ -50,5 +50,16 @@ pub fn round_trip(random: &mut Random) -> u32 {
         5 => 0,
         6 | 7 => random.below_u32(20_000),
         _ => random.below_u32(400),
+    }
+}
+
+/// N of a sample, outside its limits at times.
+pub fn expected(random: &mut Random) -> u32 {
+    match random.below(20) {
+        0 => 0,
+        1 => MAX_EXPECTED + 1,
+        2 => random.next_u32(),
+        3..=6 => random.pick(&[1, MAX_EXPECTED]),
+        _ => 1 + random.below_u32(MAX_EXPECTED),
     }
 }

@@ -14,7 +14,7 @@ use crate::play::Player;
 use crate::random::Random;
 use crate::script::{Call, MAX_BODY};
 use crate::serial::HALF;
-use crate::timer::{MAX_SAMPLE, MAX_SMOOTHED};
+use crate::timer::{Sample, LEAST_MSS, MAX_EXPECTED, MAX_SAMPLE, MAX_SMOOTHED, ROUNDING_ALLOWANCE};
 
 use self::ack_run::AckRun;
 use self::clock::Clock;
@@ -42,7 +42,7 @@ const BAD_CALLS: [&[u8]; 14] = [
     &[6, 0, 0, 0, 3, 0, 0, 0],
     &[7, 0, 0, 0, 0],
     &[8, 0, 0, 0, 11, 0, 0, 0, 0, 0, 0, 0, 0, 0, 0, 0],
-    &[11, 0, 0, 0, 3, 0, 0, 0],
+    &[11, 0, 0, 0, 7, 0, 0, 0, 0, 0, 0, 0],
     &[15, 0, 0, 0, 15, 0, 0, 0, 0, 0, 0, 0, 0, 0, 0, 0, 0, 0, 0, 0],
 ];
 
@@ -152,9 +152,9 @@ impl Generator {
     fn add_call_on(&mut self, connection: &Connection) {
         match self.random.below(1_000) {
             0..=579 => self.add_arrive(connection),
-            580..=679 => self.add_acknowledge(connection),
-            680..=749 => self.add_sent(connection),
-            750..=799 => self.add_window(connection),
+            580..=669 => self.add_acknowledge(connection),
+            670..=759 => self.add_sent(connection),
+            760..=799 => self.add_window(connection),
             800..=819 => self.push(&Call::Expire),
             // Ranges need time to fill up.
             820..=834 if self.pattern != Pattern::Holes => self.add_open(),
@@ -222,18 +222,18 @@ impl Generator {
     }
 
     fn add_sent(&mut self, connection: &Connection) {
-        let outstanding = connection.snd_una.offset_of(connection.snd_nxt);
-        let room = connection.snd_wnd.saturating_sub(outstanding);
+        let room = connection.snd_wnd.saturating_sub(connection.outstanding());
         // 2^31 above WL2 is where the order of WL2 and ACK turns.
         let to_half = connection.snd_nxt.offset_of(connection.snd_wl2.plus(HALF));
-        let count = match self.random.below(10) {
+        let count = match self.random.below(20) {
             0 => room.wrapping_add(1),
             1 => beside(&mut self.random, room),
             2 => self.random.next_u32(),
             3 => self.random.pick(&[0, u32::MAX, HALF]),
             4 if to_half <= room => to_half,
             4..=6 => room,
-            _ => self.random.below_u32(room.min(2_000) + 1),
+            7..=9 => self.random.below_u32(room.min(2_000) + 1),
+            _ => to_a_turn_of_n(&mut self.random, connection).min(room),
         };
         self.push(&Call::Sent { count });
     }
@@ -303,8 +303,11 @@ impl Generator {
     }
 
     fn add_sample(&mut self) {
-        let round_trip = edges::round_trip(&mut self.random);
-        self.push(&Call::Sample { round_trip });
+        let sample = Sample {
+            round_trip: edges::round_trip(&mut self.random),
+            expected: edges::expected(&mut self.random),
+        };
+        self.push(&Call::Sample(sample));
     }
 
     fn add_milliseconds(&mut self) {
@@ -328,12 +331,23 @@ impl Generator {
                 .random
                 .pick(&[MAX_SMOOTHED + 1, 1 << 32, u64::MAX - 1, u64::MAX]),
             2 => self.random.next_u64(),
-            3 => 256 * self.random.below(60_500) + self.random.below(3),
-            4 => 256 * 1_000 - self.random.below(700),
-            5 => 256 * 60_000 - self.random.below(700),
+            3 => {
+                let whole = 256 * (4 + self.random.below(60_500));
+                whole - ROUNDING_ALLOWANCE + 1 - self.random.below(3)
+            }
+            4 => 256 * 1_000 - self.random.below(1_500),
+            5 => 256 * 60_000 - self.random.below(1_500),
             _ => self.random.below(256 * u64::from(MAX_SAMPLE)),
         }
     }
+}
+
+/// How many octets bring what is outstanding to a place where N turns, or one past it; none where it is past that place.
+fn to_a_turn_of_n(random: &mut Random, connection: &Connection) -> u32 {
+    let octets_per_ack = 2 * u32::from(connection.mss.max(LEAST_MSS));
+    let turn = octets_per_ack * random.below_u32(MAX_EXPECTED + 1);
+    let target = turn + random.below_u32(2);
+    target.saturating_sub(connection.outstanding())
 }
 
 #[cfg(test)]
@@ -382,6 +396,16 @@ mod tests {
         let share = |number| 100 * counts.count("arrive", number) / arrivals;
         assert!(share(0) >= 45, "{}", share(0));
         assert!((1..5).contains(&share(31)), "{}", share(31));
+    }
+
+    #[test]
+    fn takes_feed_samples_with_every_n() {
+        let counts = Counts::of(&random_script(9, 40_000));
+        for expected in 1..=MAX_EXPECTED {
+            let fed = counts.fed(expected);
+            assert!(fed >= 5, "{} {}", expected, fed);
+        }
+        assert!(counts.refused_for_n() >= 100);
     }
 
     #[test]

@@ -108,7 +108,7 @@ fn random_offset(random: &mut Random, clock: u64) -> u32 {
 
 fn random_mss(random: &mut Random) -> u16 {
     let any = random.next_u16();
-    random.pick(&[0, 1, 536, 1_460, u16::MAX, any])
+    random.pick(&[0, 63, 64, 65, 536, 1_460, 1_460, u16::MAX, any])
 }
 
 fn syn_flags(random: &mut Random) -> u8 {

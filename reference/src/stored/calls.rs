@@ -5,6 +5,7 @@ use crate::cases::{opening, syn, CLOCK, RECENT};
 use crate::connection::Opening;
 use crate::script::Call;
 use crate::serial::Stamp;
+use crate::timer::Sample;
 
 #[cfg(test)]
 use crate::{connection::Connection, play::Player, script::Calls};
@@ -128,8 +129,13 @@ impl CallList {
         self.add(&Call::Window { window });
     }
 
+    /// A sample with N = 1.
     pub fn sample(&mut self, round_trip: u32) {
-        self.add(&Call::Sample { round_trip });
+        self.sample_with_n(round_trip, 1);
+    }
+
+    pub fn sample_with_n(&mut self, round_trip: u32, expected: u32) {
+        self.add(&Call::Sample(Sample::new(round_trip, expected)));
     }
 
     pub fn distance(&mut self, a: u32, b: u32) {

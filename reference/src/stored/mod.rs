@@ -28,6 +28,7 @@ mod taking;
 mod timers;
 mod unopened;
 mod verdicts;
+mod weighing;
 mod writing;
 
 use crate::generate::Generator;
@@ -73,6 +74,7 @@ pub fn script() -> Vec<u8> {
     send_side::add(&mut calls);
     ack_range::add(&mut calls);
     timers::add(&mut calls);
+    weighing::add(&mut calls);
     let mut script = calls.into_script();
     script.extend(random_calls());
     script.extend(BAD_CALL);
@@ -92,6 +94,7 @@ mod tests {
     use super::*;
     use crate::count::Counts;
     use crate::play::play;
+    use crate::timer::MAX_EXPECTED;
 
     #[test]
     fn every_number_is_reached_by_every_call_that_can_give_it() {
@@ -110,6 +113,16 @@ mod tests {
         for number in 21..=31 {
             assert!(matches!(counts.span("arrive", number), Some((0, 1..))));
         }
+    }
+
+    #[test]
+    fn every_n_is_reached_in_records_and_each_limit_of_a_sample_by_itself() {
+        let counts = Counts::of(&script());
+        for expected in 1..=MAX_EXPECTED {
+            assert!(counts.fed(expected) > 0, "{}", expected);
+        }
+        let refused = counts.count("sample", 14);
+        assert!((1..refused).contains(&counts.refused_for_n()));
     }
 
     #[test]

@@ -219,7 +219,7 @@ mod tests {
         for start in [unacknowledged, full, behind, outstanding_with_timestamps] {
             assert_eq!(reached(start).timer, Timer::default());
         }
-        assert_eq!(reached(sampled).timer.rto, 6_001);
+        assert_eq!(reached(sampled).timer.rto, 6_004);
     }
 
     #[test]

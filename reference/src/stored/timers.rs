@@ -80,11 +80,11 @@ fn lists(calls: &mut CallList) {
 /// Doubling from 24,999, 25,000, 29,999, 30,000 and 30,001 ms: up to 60,000 it is exact.
 fn doublings(calls: &mut CallList) {
     let pairs = [
-        (9_999, 9_998),
-        (9_999, 10_001),
-        (11_999, 11_998),
-        (11_999, 12_001),
-        (12_000, 12_000),
+        (9_998, 9_998),
+        (9_998, 9_999),
+        (11_998, 11_998),
+        (11_998, 11_999),
+        (11_998, 12_000),
     ];
     for (first, second) in pairs {
         calls.add(&Call::Timer);
@@ -113,15 +113,15 @@ fn milliseconds(calls: &mut CallList) {
         (256_000, 128_000),
         (256_032, 96_064),
         (512_096, 192_192),
-        (511_953, 0),
-        (511_954, 0),
+        (511_113, 0),
+        (511_114, 0),
     ];
     for (smoothed, variation) in pairs {
         add_milliseconds(calls, smoothed, variation);
     }
     // Whole milliseconds at the lower limit, in between, and at the upper limit.
     for whole in [1_000, 1_001, 30_000, 59_999, 60_000, 60_001] {
-        let turn = 256 * whole - 256 - 47;
+        let turn = 256 * whole - 256 - 887;
         for smoothed in [turn - 1, turn, turn + 1] {
             // 4V is below 256, at it and above it.
             for variation in [0, 64, 65] {

@@ -14,15 +14,23 @@ returns c = rw (not-true (c .before .before .before .before .args .k .timestampi
 is-new-requires : tie.Need-is-new-requires
 is-new-requires c κs = search needs
 
+offset-requires : tie.Need-offset-requires
+offset-requires c κs = search needs
+
+expected-samples-requires : tie.Need-expected-samples-requires
+expected-samples-requires c κs = search needs
+
 fed-requires : tie.Need-fed-requires
 fed-requires c κs = search needs
 
 returns-2 : tie.Need-returns-2
 unfolding fedBy
 returns-2 c =
-    let active = not-false (c .before .before .before .before .before .before .before .before .args .k .timestamping .active) (c .before .before .before .before .if1 .left) in
-    let new = sym (c .before .before .before .is-new .ensures) ∙ c .before .before .if2 .taken in
-    rw (c .fed .ensures, new, active)
+    let asked = c .before .before .before .before in
+    let tested = asked .before .before in
+    let active = not-false (tested .before .before .before .before .args .k .timestamping .active) (tested .if1 .left) in
+    let new = sym (asked .before .is-new .ensures) ∙ asked .if2 .taken in
+    rw (c .fed .ensures, c .before .expected-samples .ensures, c .before .before .offset .ensures, new, active)
 
 returns-3 : tie.Need-returns-3
 unfolding fedBy
@@ -31,4 +39,6 @@ returns-3 c =
     rw (sym (c .before .is-new .ensures) ∙ c .if2 .left, active)
 
 pub timer-after-spec : {M : Type 1} → statement M
-timer-after-spec = tie.close (tie.spec returns is-new-requires fed-requires returns-2 returns-3)
+timer-after-spec =
+    tie.close
+    (tie.spec returns is-new-requires offset-requires expected-samples-requires fed-requires returns-2 returns-3)
