@@ -1,6 +1,6 @@
 -- One case for each verdict and each refusal number that the calls of this crate give, two in which 31 holds beside 29 and beside 30, the
--- windows of a short run, and a sample with its N, computed from the definitions under one statement, of records that an opening gave, or an opening and the segments
--- after it. Flags are 2 for SYN, 4 for RST, 16 for ACK.
+-- windows of a short run, and a sample with its N, computed from the definitions under one statement, of records that an opening gave, or an
+-- opening and the segments after it. Flags are 2 for SYN, 4 for RST, 16 for ACK.
 use Prim.Native.Nat.{ℕ, _+_, _*_, _/_}
 use mathlib.Core.Bool.{true, false}
 use mathlib.Core.List.{List, [], _∷_, _++_, map}

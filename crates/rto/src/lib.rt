@@ -1,4 +1,5 @@
-// The retransmission timer of RFC 6298, by value, with the weights of RFC 7323, Appendix G. The smoothed round-trip time S and its variation V are kept in 1/256 ms.
+// The retransmission timer of RFC 6298, by value, with the weights of RFC 7323, Appendix G. The smoothed round-trip time S and its variation V
+// are kept in 1/256 ms.
 mod estimate;
 
 ghost use mathlib.Core.Path.{_≡_};
