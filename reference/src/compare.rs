@@ -10,7 +10,7 @@ use std::thread;
 
 use crate::describe::Readable;
 use crate::generate::Generator;
-use crate::play::{play, Hex, Player};
+use crate::play::{play, say_opened, Hex, Player};
 use crate::random::Random;
 use crate::script::Calls;
 
@@ -163,7 +163,7 @@ fn context(script: &[u8], line: usize) -> Context {
             };
             return Context::new(number, whole.to_string(), before);
         }
-        if out.starts_with("open 0") {
+        if say_opened(&out) {
             before.clear();
         }
         let readable = Readable {

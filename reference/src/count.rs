@@ -1,17 +1,18 @@
 //! Counts how often each call of a script gave each number, with the least and the most of the places of faulty
-//! options, or of the counts of skipped ones, that came with it, and with the numbers of steps; and the N of samples.
+//! options, or of the counts of skipped ones, that came with it, and with the numbers of steps; the N of samples; and
+//! what openings under the profile lacked.
 
 use std::collections::{BTreeMap, BTreeSet};
 use std::fmt::{self, Display};
 
 use crate::connection::Connection;
-use crate::play::{Player, BAD_LINE};
+use crate::play::{say_opened, Player, BAD_LINE};
 use crate::script::{Call, Calls};
 use crate::segment::Segment;
 use crate::timer::{Sample, MAX_SAMPLE};
 
 /// The calls that give numbers, and the numbers that each can give.
-const POSSIBLE: [(&str, &[u8]); 8] = [
+const POSSIBLE: [(&str, &[u8]); 9] = [
     ("read", &[0, 1, 2, 3, 4, 5, 6]),
     ("open", &[0, 1, 2, 3, 4, 5, 6, 9, 10, 11]),
     (
@@ -25,10 +26,11 @@ const POSSIBLE: [(&str, &[u8]); 8] = [
     ("acknowledge", &[0, 7, 8]),
     ("sample", &[0, 14]),
     ("refusal", &[0, 1, 2, 3, 4, 5, 6]),
+    ("profile", &[0, 1, 2, 3, 4, 5, 6, 9, 10, 11, 17]),
 ];
 
 /// The calls whose line has the place of an option at fault or a count of skipped options, and the fields behind it.
-const PLACED: [(&str, usize); 3] = [("read", 1), ("open", 0), ("arrive", 0)];
+const PLACED: [(&str, usize); 4] = [("read", 1), ("open", 0), ("arrive", 0), ("profile", 0)];
 
 /// What a call answered, as far as it is counted.
 #[derive(Clone, Copy, Debug, PartialEq, Eq, PartialOrd, Ord)]
@@ -79,6 +81,12 @@ pub struct Counts {
     fed: BTreeMap<u32, u64>,
     /// How many samples with a good R the timer that stands by itself refused.
     refused_for_n: u64,
+    /// How many openings under the profile lacked each of its demands.
+    lacks: BTreeMap<u8, u64>,
+    /// Whether the profile opened the record that is there now.
+    under_profile: bool,
+    /// How many segments were taken by records that the profile opened.
+    taken_under_profile: u64,
 }
 
 impl Counts {
@@ -97,6 +105,7 @@ impl Counts {
                     let tally = counts.tally(name(&call), outcome);
                     tally.note(place_or_count(&call, &lines), steps(&call, &lines));
                     counts.note_sample(&call, outcome, before.as_ref());
+                    counts.note_profile(&call, outcome, &lines);
                 }
                 Err(_) => {
                     let tally = counts.tally(BAD_LINE.trim_end(), Outcome::Plain);
@@ -124,6 +133,34 @@ impl Counts {
             }
             _ => {}
         }
+    }
+
+    fn note_profile(&mut self, call: &Call, outcome: Outcome, lines: &str) {
+        match call {
+            Call::Open { .. } | Call::OpenUnderProfile { .. } if say_opened(lines) => {
+                self.under_profile = matches!(call, Call::OpenUnderProfile { .. });
+            }
+            Call::OpenUnderProfile { .. } => {
+                // The lack is the last field but one.
+                if let Some(lack) = field_from_end(lines, 1) {
+                    *self.lacks.entry(lack).or_default() += 1;
+                }
+            }
+            Call::Arrive { .. } if outcome == TAKEN => {
+                self.taken_under_profile += u64::from(self.under_profile);
+            }
+            _ => {}
+        }
+    }
+
+    /// How many openings under the profile lacked this demand.
+    pub fn lack(&self, number: u8) -> u64 {
+        self.lacks.get(&number).copied().unwrap_or(0)
+    }
+
+    /// How many segments were taken by records that the profile opened.
+    pub fn taken_under_profile(&self) -> u64 {
+        self.taken_under_profile
     }
 
     /// How many takes fed a sample with this N to a timer that had one before.
@@ -183,10 +220,11 @@ impl Display for Counts {
                 joined(runs(&tally.steps)),
             )?;
         }
-        let fed = self.fed.iter();
-        let by_n = fed.map(|(expected, count)| format!("{}: {}", expected, count));
-        writeln!(f, "later samples of takes by N: {}", listed(by_n, ", "))?;
+        writeln!(f, "later samples of takes by N: {}", by_key(&self.fed))?;
         writeln!(f, "samples refused for N alone: {}", self.refused_for_n)?;
+        writeln!(f, "lacks under the profile: {}", by_key(&self.lacks))?;
+        let taken = self.taken_under_profile;
+        writeln!(f, "takes by records that the profile opened: {}", taken)?;
         let missing = self.never_reached();
         if missing.is_empty() {
             return writeln!(f, "never reached: none");
@@ -214,6 +252,13 @@ fn joined(spans: impl IntoIterator<Item = (u8, u8)>) -> String {
     let spans = spans.into_iter();
     let words = spans.map(|(least, most)| format!("{}-{}", least, most));
     listed(words, ",")
+}
+
+/// Each key with its count.
+fn by_key<K: Display>(counts: &BTreeMap<K, u64>) -> String {
+    let pairs = counts.iter();
+    let words = pairs.map(|(key, count)| format!("{}: {}", key, count));
+    listed(words, ", ")
 }
 
 /// Words one behind the other, `-` where there are none.
@@ -250,6 +295,7 @@ fn name(call: &Call) -> &'static str {
         Call::Refusal { .. } => "refusal",
         Call::DistanceFromC { .. } => "distance from C",
         Call::Milliseconds { .. } => "milliseconds",
+        Call::OpenUnderProfile { .. } => "profile",
     }
 }
 
@@ -289,7 +335,7 @@ fn field_from_end(lines: &str, behind: usize) -> Option<u8> {
 mod tests {
     use super::*;
     use crate::builder::SegmentBuilder;
-    use crate::cases::{opening, syn, CLOCK, NEXT, RECENT, UNA};
+    use crate::cases::{opening, stamped, syn, CLOCK, NEXT, RECENT, UNA};
     use crate::connection::Opening;
     use crate::serial::{Seq, Stamp};
 
@@ -355,6 +401,38 @@ mod tests {
         let table = counts.to_string();
         assert!(table.contains("\nlater samples of takes by N: 1: 1, 2: 1\n"));
         assert!(table.contains("\nsamples refused for N alone: 2\n"));
+    }
+
+    #[test]
+    fn openings_under_the_profile_are_counted_by_what_they_lack() {
+        let mut script = Vec::new();
+        let opening = Opening {
+            timestamps: true,
+            ..opening()
+        };
+        let offered = syn().timestamps(RECENT, Stamp(0));
+        let (without, low) = (&syn().build(), &offered.clone().mss(535).build());
+        let segment = &offered.build();
+        let arrive = Call::Arrive {
+            clock: CLOCK,
+            segment: &stamped(NEXT, 0).build(),
+        };
+        // The base's record takes one, the profile's takes two, and a refused opening leaves it.
+        Call::Open { opening, segment }.encode(&mut script);
+        arrive.encode(&mut script);
+        for segment in [segment, without, without, low] {
+            Call::OpenUnderProfile { opening, segment }.encode(&mut script);
+        }
+        arrive.encode(&mut script);
+        arrive.encode(&mut script);
+        let counts = Counts::of(&script);
+        let given = [0, 17].map(|number| counts.count("profile", number));
+        assert_eq!(given, [1, 3]);
+        assert_eq!([1, 2, 3].map(|number| counts.lack(number)), [2, 0, 1]);
+        assert_eq!(counts.taken_under_profile(), 2);
+        let table = counts.to_string();
+        assert!(table.contains("\nlacks under the profile: 1: 2, 3: 1\n"));
+        assert!(table.contains("\ntakes by records that the profile opened: 2\n"));
     }
 
     #[test]

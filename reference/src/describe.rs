@@ -83,6 +83,10 @@ impl Display for Readable<'_> {
                 smoothed,
                 variation,
             } => write!(f, "milliseconds S {} V {}", smoothed, variation),
+            Call::OpenUnderProfile { opening, segment } => {
+                write!(f, "open under the profile {} ", OpeningWords(&opening))?;
+                self.segment(f, segment)
+            }
         }
     }
 }
@@ -167,6 +171,7 @@ fn write_flags(f: &mut fmt::Formatter, flags: u8) -> fmt::Result {
 mod tests {
     use super::*;
     use crate::builder::SegmentBuilder;
+    use crate::cases::opening;
     use crate::segment::{ACK, FIN};
     use crate::serial::{Seq, Stamp};
 
@@ -188,6 +193,23 @@ mod tests {
             readable.to_string(),
             "arrive clock 9 segment (SEQ 5 ACK 6 flags ACK|FIN window 8192 payload 0 \
              TSval 7 TSecr 8 skipped 1) 32 octets 3039..."
+        );
+    }
+
+    #[test]
+    fn an_opening_under_the_profile_in_words() {
+        let call = Call::OpenUnderProfile {
+            opening: opening(),
+            segment: &[1],
+        };
+        let readable = Readable {
+            call: &call,
+            octets_shown: 10,
+        };
+        assert_eq!(
+            readable.to_string(),
+            "open under the profile ISS 1000 no shift timestamps false SACK false window 65535 \
+             offset 0 clock 10000 segment (unreadable, E1) 1 octets 01"
         );
     }
 

@@ -17,6 +17,7 @@ pub mod natural;
 pub mod octets;
 pub mod options;
 pub mod play;
+pub mod profile;
 pub mod random;
 pub mod ranges;
 pub mod refusal;

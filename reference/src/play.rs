@@ -2,10 +2,11 @@
 
 use std::fmt::{self, Display, Write};
 
-use crate::connection::Connection;
+use crate::connection::{Connection, Opened};
 use crate::options::Reading;
+use crate::profile;
 use crate::ranges::Range;
-use crate::refusal::Refusal;
+use crate::refusal::{Lack, Refusal};
 use crate::script::{Call, Calls};
 use crate::segment::{find_option, refusal_number, Segment};
 use crate::serial::distance;
@@ -37,6 +38,11 @@ pub fn play(script: &[u8]) -> String {
     out
 }
 
+/// Whether the lines of a call say that it opened a record.
+pub fn say_opened(lines: &str) -> bool {
+    lines.starts_with("open 0 ") || lines.starts_with("profile 0 ")
+}
+
 impl Player {
     pub fn connection(&self) -> Option<&Connection> {
         self.connection.as_ref()
@@ -59,11 +65,14 @@ impl Player {
             }
             Call::Open { opening, segment } => {
                 let opened = Connection::open(&opening, segment);
-                let place_or_count = Where(opened.map(|opened| opened.skipped));
-                writeln!(out, "open {} {}", number(&opened), place_or_count)?;
-                let connection = opened.ok().map(|opened| opened.connection);
-                self.connection = connection.or(self.connection);
-                self.write_record(out)
+                write!(out, "open {}", number(&opened))?;
+                self.keep(opened, out)
+            }
+            Call::OpenUnderProfile { opening, segment } => {
+                let opened = profile::open(&opening, segment);
+                let lack = opened.err().and_then(Refusal::lack).map(Lack::number);
+                write!(out, "profile {} {}", number(&opened), OrDash(lack))?;
+                self.keep(opened, out)
             }
             Call::Timer => {
                 self.timer = Timer::default();
@@ -115,6 +124,14 @@ impl Player {
                 writeln!(out, "expire")
             }),
         }
+    }
+
+    /// Ends the line of an opening and keeps its record; the one that was there stays where the opening is refused.
+    fn keep(&mut self, opened: Result<Opened, Refusal>, out: &mut String) -> fmt::Result {
+        writeln!(out, " {}", Where(opened.map(|opened| opened.skipped)))?;
+        let connection = opened.ok().map(|opened| opened.connection);
+        self.connection = connection.or(self.connection);
+        self.write_record(out)
     }
 
     /// Makes a call that needs an open record, then writes the record.
@@ -311,7 +328,10 @@ impl Display for TimerFields<'_> {
 #[cfg(test)]
 mod tests {
     use super::*;
-    use crate::cases::{data, opening, syn, CLOCK, NEXT};
+    use crate::cases::{data, opening, syn, CLOCK, NEXT, RECENT};
+    use crate::connection::Opening;
+    use crate::segment::ACK;
+    use crate::serial::Stamp;
     use crate::timer::Sample;
 
     fn play_calls(calls: &[Call]) -> String {
@@ -387,6 +407,40 @@ mod tests {
                         arrive 0 0 0 0 0 0\n\
                         record 5000 65535 5000 0 0 1001 1001 20 5000 1001 0 0 10000 0 0 536 0 0 0 0 1000 60\n";
         assert_eq!(play_calls(&calls), expected);
+    }
+
+    #[test]
+    fn the_profile_opens_the_record_of_the_base_or_says_what_is_lacking() {
+        let opening = Opening {
+            timestamps: true,
+            ..opening()
+        };
+        let offered = syn().timestamps(RECENT, Stamp(0)).options(&[99, 2]);
+        let segments = [
+            syn().options(&[99, 2]),
+            offered.clone().scale(8),
+            offered.clone().mss(535),
+            offered.clone().options(&[99, 1]),
+            offered.clone().flags(ACK),
+            offered,
+            syn(),
+        ]
+        .map(|segment| segment.build());
+        let open = |segment| Call::OpenUnderProfile { opening, segment };
+        let calls: Vec<Call> = segments.iter().map(|segment| open(segment)).collect();
+        let record = "record 5000 65535 5000 0 0 1001 1001 8192 4999 1001 1 100 10000 0 0 536 0 0 0 0 1000 8192\n";
+        let expected = [
+            "profile 17 1 -\nrecord -\n",
+            "profile 17 2 -\nrecord -\n",
+            "profile 17 3 -\nrecord -\n",
+            "profile 4 - 32\nrecord -\n",
+            "profile 10 - -\nrecord -\n",
+            "profile 0 - 1\n",
+            record,
+            "profile 17 1 -\n",
+            record,
+        ];
+        assert_eq!(play_calls(&calls), expected.concat());
     }
 
     /// The lines, but for the record's, about segments with these options: read, opened from, arriving.

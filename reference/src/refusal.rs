@@ -1,10 +1,25 @@
-//! The refusals E1 to E14.
+//! The refusals E1 to E14 and E17.
 
 /// Where the kind octet of an option stands, counted from the segment's first octet.
 #[derive(Clone, Copy, Debug, PartialEq, Eq)]
 pub struct Place(pub u8);
 
-/// Why a call was refused. The three faults of an option say where it stands; no other refusal has a place.
+/// The demand of the field-station profile that an opening does not meet; the discriminant is its number.
+#[derive(Clone, Copy, Debug, PartialEq, Eq)]
+pub enum Lack {
+    Timestamps = 1,
+    Shift = 2,
+    Mss = 3,
+}
+
+impl Lack {
+    pub fn number(self) -> u8 {
+        self as u8
+    }
+}
+
+/// Why a call was refused. The three faults of an option say where it stands, the profile's refusal what is lacking;
+/// no other refusal says more than its number.
 #[derive(Clone, Copy, Debug, PartialEq, Eq)]
 pub enum Refusal {
     SegmentTooShort,
@@ -21,6 +36,7 @@ pub enum Refusal {
     BeyondSendWindow,
     ReceiveWindow,
     Sample,
+    Profile(Lack),
 }
 
 impl Refusal {
@@ -40,6 +56,7 @@ impl Refusal {
             Refusal::BeyondSendWindow => 12,
             Refusal::ReceiveWindow => 13,
             Refusal::Sample => 14,
+            Refusal::Profile(_) => 17,
         }
     }
 
@@ -49,6 +66,14 @@ impl Refusal {
             Refusal::OptionBounds(place)
             | Refusal::OptionLength(place)
             | Refusal::OptionRepeated(place) => Some(place),
+            _ => None,
+        }
+    }
+
+    /// The profile's demand that is not met.
+    pub fn lack(self) -> Option<Lack> {
+        match self {
+            Refusal::Profile(lack) => Some(lack),
             _ => None,
         }
     }

@@ -30,6 +30,7 @@ const EXPIRY: u8 = 12;
 const REFUSAL: u8 = 13;
 const DISTANCE_FROM_C: u8 = 14;
 const MILLISECONDS: u8 = 15;
+const OPEN_UNDER_PROFILE: u8 = 19;
 
 /// One call of a script.
 #[derive(Clone, Copy, Debug, PartialEq, Eq)]
@@ -79,6 +80,10 @@ pub enum Call<'a> {
     Milliseconds {
         smoothed: u64,
         variation: u64,
+    },
+    OpenUnderProfile {
+        opening: Opening,
+        segment: &'a [u8],
     },
 }
 
@@ -136,6 +141,10 @@ impl<'a> Call<'a> {
                 smoothed: body.u64()?,
                 variation: body.u64()?,
             },
+            OPEN_UNDER_PROFILE => Call::OpenUnderProfile {
+                opening: body.opening()?,
+                segment: body.rest,
+            },
             _ => return Err(Bad),
         })
     }
@@ -167,6 +176,7 @@ impl<'a> Call<'a> {
             Call::Refusal { .. } => REFUSAL,
             Call::DistanceFromC { .. } => DISTANCE_FROM_C,
             Call::Milliseconds { .. } => MILLISECONDS,
+            Call::OpenUnderProfile { .. } => OPEN_UNDER_PROFILE,
         }
     }
 
@@ -182,7 +192,7 @@ impl<'a> Call<'a> {
                 out.extend_from_slice(&a.to_be_bytes());
                 out.extend_from_slice(&b.to_be_bytes());
             }
-            Call::Open { opening, segment } => {
+            Call::Open { opening, segment } | Call::OpenUnderProfile { opening, segment } => {
                 encode_opening(&opening, out);
                 out.extend_from_slice(segment);
             }
@@ -378,6 +388,10 @@ mod tests {
                 smoothed: u64::MAX,
                 variation: 1,
             },
+            Call::OpenUnderProfile {
+                opening: OPENING,
+                segment: b"syn",
+            },
         ]
     }
 
@@ -427,5 +441,37 @@ mod tests {
         too_long[4] = 0x80;
         too_long.pop();
         assert!(matches!(Calls::new(&too_long).next(), Some(Ok(_))));
+    }
+
+    #[test]
+    fn both_openings_need_all_their_fields() {
+        for name in [OPEN, OPEN_UNDER_PROFILE] {
+            let body = [0; 22];
+            for length in 0..body.len() {
+                assert_eq!(Call::decode(name, &body[..length]), Err(Bad));
+            }
+            assert!(Call::decode(name, &body).is_ok());
+        }
+    }
+
+    #[test]
+    fn a_shift_without_its_bit_is_no_offer_and_other_bits_are_not_looked_at() {
+        let mut body = [0; 22];
+        body[4] = 200;
+        for (offers, shift) in [(0xf9, None), (0xfd, Some(200)), (1, None), (5, Some(200))] {
+            body[5] = offers;
+            let opening = Opening {
+                iss: Seq(0),
+                shift,
+                timestamps: true,
+                sack: false,
+                window: 0,
+                offset: 0,
+                clock: 0,
+            };
+            let segment: &[u8] = &[];
+            let call = Call::OpenUnderProfile { opening, segment };
+            assert_eq!(Call::decode(OPEN_UNDER_PROFILE, &body), Ok(call));
+        }
     }
 }

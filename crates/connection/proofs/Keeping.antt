@@ -13,12 +13,13 @@ use Rattle.send.proofs.Sound as send-side
 use Rattle.connection.specs.declared.Connection.{Connection}
 use Rattle.connection.specs.declared.Setup.{Setup}
 use Rattle.connection.specs.Record.{Sound, blank}
-use Rattle.connection.specs.Opening.{OpeningAnswer, ackFieldsOf, opening, openingRead, recordFrom, recordWith}
+use Rattle.connection.specs.Opening.{OpeningAnswer, ackFieldsOf, recordFrom, recordWith}
+use Rattle.connection.specs.Profile.{Profiled}
 use Rattle.connection.specs.Taking.{fedBy, recordAfter}
 use Rattle.connection.specs.Arriving.{Arrival, arriving, arrivingRead}
 use Rattle.connection.specs.Operations.{CallAnswer, acknowledged, expired, sent, windowOpened}
-use Rattle.connection.specs.Calls.{Incoming, arrived, openedBy, read, unread}
-use Rattle.connection.proofs.Incoming.{arrived-cases, opening-cases}
+use Rattle.connection.specs.Calls.{Incoming, Way, arrived, openedUnder, read, unread}
+use Rattle.connection.proofs.Incoming.{arrived-cases, way-cases}
 
 -- opening
 pub blank-sound : Sound blank
@@ -32,6 +33,9 @@ blank-sound = record {
 abbrev pub SoundOpening : OpeningAnswer → Type 0
 SoundOpening a = Sound (a .connection)
 
+abbrev pub SoundProfiled : Profiled → Type 0
+SoundProfiled a = Sound (a .opening .connection)
+
 module _ (own : Setup) (clock : ℕ) where
   pub record-sound : (syn : Segment) → Sound (recordFrom own clock syn)
   unfolding recordFrom recordWith
@@ -41,14 +45,8 @@ module _ (own : Setup) (clock : ℕ) where
     timer-sound = sound-new;
   }
 
-  opened-sound : (i : Incoming) → Sound (openedBy own clock i .connection)
-  opened-sound i = opening-cases Sound blank-sound own clock i (λ syn _. record-sound syn)
-
-  pub opening-read-sound : (syn : Segment) → Sound (openingRead own clock syn .connection)
-  opening-read-sound syn = opened-sound (read syn)
-
-  pub opening-sound : (octets : List ℕ) → Sound (opening own clock octets .connection)
-  opening-sound octets = opened-sound (unread octets)
+  pub opened-sound : (way : Way) (i : Incoming) → Sound (openedUnder way own clock i .connection)
+  opened-sound way i = way-cases Sound blank-sound own clock way i (λ syn _. record-sound syn)
 
 abbrev pub SoundArrival : Arrival → Type 0
 SoundArrival a = Sound (a .connection)

@@ -61,5 +61,5 @@ largest-window k o calls =
 -- the claim at a record whose window goes up from 9 to 20, then down to 5
 largest-worked : IsLargest 20 (9 ∷ 20 ∷ 5 ∷ [])
 largest-worked =
-    subst (λ n. IsLargest n (9 ∷ 20 ∷ 5 ∷ [])) (cases .6)
-    (subst (IsLargest (run base rising .send .largest)) (cases .5) (largest-window base base-opened rising))
+    subst (λ n. IsLargest n (9 ∷ 20 ∷ 5 ∷ [])) (cases .7)
+    (subst (IsLargest (run base rising .send .largest)) (cases .6) (largest-window base base-opened rising))

@@ -1,5 +1,6 @@
 pub mod Incoming
 pub mod Openings
+pub mod FieldStation
 pub mod Table
 pub mod Rows
 pub mod PassedOn

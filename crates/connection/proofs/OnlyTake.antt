@@ -16,8 +16,9 @@ use Rattle.connection.specs.Opening.{OpeningAnswer, exceedsLimits, isNot
 use Rattle.connection.specs.Verdict.{decided, rows}
 use Rattle.connection.specs.Arriving.{Arrival, arriving, arrivingRead, isTake, judged, refusing, settled, takenBy, unchanged}
 use Rattle.connection.specs.Operations.{sent, windowOpened, withReceive, withSend}
-use Rattle.connection.specs.Calls.{unread}
+use Rattle.connection.specs.Calls.{Incoming, Way, openedBy, openedUnder, plain, profile, read, unread}
 use Rattle.laws.proofs.Choices.{either, if-some}
+use Rattle.connection.proofs.Incoming.{profiled-cases}
 use Rattle.connection.proofs.PassedOn.{place-passed, refusal-skips-none}
 
 -- what is not taken leaves the record, and has no part, no FIN and no blocks
@@ -46,7 +47,7 @@ refusal-leaves k clock octets e =
     only-take k clock octets (rw e refl)
     ∙ (λ i. unchanged k (record { number = arriving k clock octets .decision .number; action = e i }) (place i) (skipped i))
 
--- a refused opening gives the blank record
+-- a refused opening, by either way, gives the blank record
 abbrev Blank : OpeningAnswer → Type 0
 Blank a = (a .number ≡ 0 → ⊥) → a ≡ refusedOpening (a .number) (a .place)
 
@@ -57,16 +58,16 @@ module _ (own : Setup) (clock : ℕ) where
       either Blank (isNotSyn syn) _ _ (λ _ e. refl)
       (λ _. either Blank (isWrongAck (own .iss .0) syn) _ _ (λ _ e. refl) (λ _ e. absurd (e refl)))
 
-  pub opening-read-refusal : (syn : Segment) → Blank (openingRead own clock syn)
-  unfolding openingRead
-  opening-read-refusal syn =
-      either Blank (exceedsLimits own) _ _ (λ _ e. refl) (λ _. opening-from-refusal syn)
-
-  pub opening-refusal : (octets : List ℕ) → Blank (opening own clock octets)
-  unfolding opening
-  opening-refusal octets =
+  opening-by-refusal : (i : Incoming) → Blank (openedBy own clock i)
+  unfolding opening openingRead
+  opening-by-refusal (unread octets) =
       either Blank (exceedsLimits own) _ _ (λ _ e. refl)
       (λ _. if-some Blank (reading octets .fields) _ (openingFrom own clock) (λ e. refl) opening-from-refusal)
+  opening-by-refusal (read syn) = either Blank (exceedsLimits own) _ _ (λ _ e. refl) (λ _. opening-from-refusal syn)
+
+  pub opening-refusal : (way : Way) (i : Incoming) → Blank (openedUnder way own clock i)
+  opening-refusal plain i = opening-by-refusal i
+  opening-refusal profile i = profiled-cases (λ a. Blank (a .opening)) own clock i (opening-by-refusal i) (λ _ _ _ _ _ e. refl)
 
 -- E12 and E13 leave the record
 pub sent-refusal : (k : Connection) (n : ℕ) → (sent k n .number ≡ 0 → ⊥) → sent k n .connection ≡ k

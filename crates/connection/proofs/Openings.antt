@@ -5,10 +5,10 @@ use mathlib.Core.List.{List, []}
 use mathlib.Core.Logic.{_⊎_, inl, inr}
 use mathlib.Core.Option.{none, some, Option·elim}
 use mathlib.Core.Path.{_≡_, refl, sym, ap, subst, _∙_}
-use Prim.Native.Nat.{ℕ, _+_, _%_, _^_, _<_}
+use Prim.Native.Nat.{ℕ, _+_, _%_, _^_, _<_, _≤_}
 use native.Mathlib.Omega.{arith}
 use borrow.Author.Tests.{eq-eqb, ne-eqb, not-false}
-use Rattle.laws.proofs.Choices.{either, neither}
+use Rattle.laws.proofs.Choices.{either, if-some, neither}
 use Rattle.serial.specs.declared.Stamp.{Stamp}
 use Rattle.offers.specs.Offers.{exceedLimits, inForce}
 use Rattle.offers.specs.declared.InForce.{InForce}
@@ -20,14 +20,14 @@ use Rattle.segment.specs.declared.Mss.{Mss}
 use Rattle.segment.specs.declared.Segment.{Segment}
 use Rattle.segment.specs.declared.Timestamps.{Timestamps}
 use Rattle.segment.proofs.Readable.{readable}
-use Rattle.segment.proofs.Refused.{read-whole}
+use Rattle.segment.proofs.Refused.{read-whole, reading-alone}
 use Rattle.send.specs.Send as send
 use Rattle.timestamps.specs.Timestamps as timestamps
 use Rattle.connection.specs.declared.Connection.{Connection}
 use Rattle.connection.specs.declared.Setup.{Setup}
 use Rattle.connection.specs.Opening.{OpeningAnswer, exceedsLimits, isNotSyn, isWrongAck, mssOf, opening, openingFrom, openingRead, peerOffers, recordFrom, recordWith, refusedOpening, tsvalOf}
-use Rattle.connection.specs.Calls.{Incoming, fieldsOf, openedBy, read, unread}
-use Rattle.connection.proofs.Incoming.{opened-by-fields}
+use Rattle.connection.specs.Calls.{Incoming, Way, fieldsOf, openedBy, openedUnder, plain, profile, read, unread}
+use Rattle.connection.proofs.Incoming.{opened-by-fields, profiled-cases}
 
 -- the tests of E10 and E11
 module _ (iss : ℕ) (syn : Segment) where
@@ -50,6 +50,23 @@ module _ (iss : ℕ) (syn : Segment) where
   right-ack-if (inr right) = rw (eq-eqb (syn .ack .0) ((iss + 1) % 2 ^ 32) right) (and-false (syn .flags .ack))
 
 module _ (own : Setup) (clock : ℕ) where
+  -- no number above 11
+  abbrev Most : OpeningAnswer → Type 0
+  Most a = a .number ≤ 11
+
+  from-most : (syn : Segment) → Most (openingFrom own clock syn)
+  unfolding openingFrom
+  from-most syn =
+      either Most (isNotSyn syn) _ _ (λ _. omega arith)
+      (λ _. either Most (isWrongAck (own .iss .0) syn) _ _ (λ _. omega arith) (λ _. omega arith))
+
+  pub opening-most : (i : Incoming) → openedBy own clock i .number ≤ 11
+  unfolding opening openingRead
+  opening-most (unread octets) =
+      either Most (exceedsLimits own) _ _ (λ _. omega arith)
+      (λ _. if-some Most (reading octets .fields) _ _ (omega (arith, reading-alone octets .number-most)) from-most)
+  opening-most (read syn) = either Most (exceedsLimits own) _ _ (λ _. omega arith) (λ _. from-most syn)
+
   -- E9, whatever the segment is
   pub limits-refused : (i : Incoming) → exceedLimits (own .offers) (own .window) ≡ true → openedBy own clock i .number ≡ 9
   unfolding opening openingRead
@@ -202,10 +219,18 @@ module _ (own : Setup) (clock : ℕ) (syn : Segment) where
         timer = refl;
       }
 
-  pub opening-opens : (i : Incoming) → fieldsOf i ≡ some syn → openedBy own clock i .number ≡ 0
+  opens-by : (i : Incoming) → fieldsOf i ≡ some syn → openedBy own clock i .number ≡ 0
       → Opens own clock syn force (openedBy own clock i .connection)
-  opening-opens i is opens =
+  opens-by i is opens =
       let by = opened-by-fields own clock i syn is in
       let gives = opening-gives own clock syn (sym (ap (λ (a : OpeningAnswer). a .number) by) ∙ opens) in
       let same = ap (λ (a : OpeningAnswer). a .connection) by ∙ gives .record-is in
       subst (Opens own clock syn force) (sym same) (record-opens (gives .within-limits))
+
+  -- by either way
+  pub opening-opens : (way : Way) (i : Incoming) → fieldsOf i ≡ some syn → openedUnder way own clock i .number ≡ 0
+      → Opens own clock syn force (openedUnder way own clock i .connection)
+  opening-opens plain i is opens = opens-by i is opens
+  opening-opens profile i is opens =
+      profiled-cases (λ a. a .opening .number ≡ 0 → Opens own clock syn force (a .opening .connection)) own clock i
+      (opens-by i is) (λ _ _ _ _ _ e. absurd (omega arith)) opens

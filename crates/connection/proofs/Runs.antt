@@ -22,7 +22,7 @@ use Rattle.connection.specs.Verdict.{decided, rows}
 use Rattle.connection.specs.Taking.{fedBy, recordAfter}
 use Rattle.connection.specs.Arriving.{arriving, arrivingRead, isTake, judged, notTaken, refusing, settled, takenBy}
 use Rattle.connection.specs.Operations.{acknowledged, expired, sent, windowOpened}
-use Rattle.connection.specs.Calls.{Call, Incoming, Opened, acknowledgment, arrival, arrived, called, expiry, read, run, sending, timerCall, timerCalls, unread, window}
+use Rattle.connection.specs.Calls.{Call, Incoming, Opened, Way, acknowledgment, arrival, arrived, called, expiry, read, run, sending, timerCall, timerCalls, unread, window}
 use Rattle.connection.specs.Demand.{Demand3, SoundAlways, TimerFollows}
 use Rattle.connection.specs.Cases.{sender, sender-opened, timed, timed-feeds}
 use Rattle.connection.proofs.Incoming.{opened-holds}
@@ -116,9 +116,9 @@ pub demand-3-in-record : Demand3
 unfolding Demand3 rto-demand.Demand3
 demand-3-in-record k o calls stands = rw (timer-follows k o calls) (demand-3 (timerCalls k calls) stands)
 
--- the claims' premises can be met: a record is opened, and a segment is taken whose sample is 57 ms with an N of 3
-demand-3-in-record-worked : rto-demand.OnTime (run sender timed .timer .timeout) (exactRun unset (timerCalls sender timed))
+-- the claims' premises can be met: a record is opened, by either way, and a segment is taken whose sample is 57 ms with an N of 3
+demand-3-in-record-worked : (way : Way) → rto-demand.OnTime (run (sender way) timed .timer .timeout) (exactRun unset (timerCalls (sender way) timed))
 unfolding Demand3
-demand-3-in-record-worked =
-    demand-3-in-record sender sender-opened timed
-    (record { before = []; rtt = 57; expected = 3; after = []; split = timed-feeds; not-refused = refl; last = tt })
+demand-3-in-record-worked way =
+    demand-3-in-record (sender way) (sender-opened way) timed
+    (record { before = []; rtt = 57; expected = 3; after = []; split = timed-feeds way; not-refused = refl; last = tt })

@@ -10,6 +10,7 @@ use Rattle.segment.specs.declared.Segment.{Segment}
 use Rattle.connection.specs.declared.Connection.{Connection}
 use Rattle.connection.specs.declared.Setup.{Setup}
 use Rattle.connection.specs.Opening.{OpeningAnswer, opening, openingRead}
+use Rattle.connection.specs.Profile.{Profiled, profileOpening, profileOpeningRead}
 use Rattle.connection.specs.Taking.{fedBy}
 use Rattle.connection.specs.Arriving.{Arrival, arriving, arrivingRead, isTake}
 use Rattle.connection.specs.Operations.{acknowledged, expired, sent, windowOpened}
@@ -27,16 +28,29 @@ abbrev pub openedBy : Setup → ℕ → Incoming → OpeningAnswer
 openedBy own clock (unread octets) = opening own clock octets
 openedBy own clock (read syn) = openingRead own clock syn
 
+abbrev pub profiledBy : Setup → ℕ → Incoming → Profiled
+profiledBy own clock (unread octets) = profileOpening own clock octets
+profiledBy own clock (read syn) = profileOpeningRead own clock syn
+
+-- the ways of opening: with no demands beside document 01's, and under the field-station profile
+pub data Way : Type 0 where
+  plain profile : Way
+
+abbrev pub openedUnder : Way → Setup → ℕ → Incoming → OpeningAnswer
+openedUnder plain own clock syn = openedBy own clock syn
+openedUnder profile own clock syn = profiledBy own clock syn .opening
+
 abbrev pub arrived : Connection → ℕ → Incoming → Arrival
 arrived k clock (unread octets) = arriving k clock octets
 arrived k clock (read s) = arrivingRead k clock s
 
--- a record that an opening gave, also the blank one that a refused opening gives
+-- a record that an opening gave, by either way, also the blank one that a refused opening gives
 pub record Opened (k : Connection) : Type 0 where
+  pub way : Way
   pub own : Setup
   pub clock : ℕ
   pub syn : Incoming
-  pub opens : openedBy own clock syn .connection ≡ k
+  pub opens : openedUnder way own clock syn .connection ≡ k
 
 -- a segment at a clock, octets sent, a new receive window, an expiry, an acknowledgment written. An acknowledgment that is refused leaves
 -- the record, so a list of calls need not have it.

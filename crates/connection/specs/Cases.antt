@@ -1,6 +1,6 @@
 -- One case for each verdict and each refusal number that the calls of this crate give, two in which 31 holds beside 29 and beside 30, the
--- windows of a short run, and a sample with its N, computed from the definitions under one statement, of records that an opening gave, or an
--- opening and the segments after it. Flags are 2 for SYN, 4 for RST, 16 for ACK.
+-- windows of a short run, and a sample with its N of a record that either way opens, computed from the definitions under one statement, of
+-- records that an opening gave, or an opening and the segments after it. Flags are 2 for SYN, 4 for RST, 16 for ACK.
 use Prim.Native.Nat.{ℕ, _+_, _*_, _/_}
 use mathlib.Core.Bool.{true, false}
 use mathlib.Core.List.{List, [], _∷_, _++_, map}
@@ -9,6 +9,7 @@ use mathlib.Core.Path.{_≡_, refl}
 use lib.ListN.{length, replicate}
 use Rattle.serial.specs.Serial.{distanceOf, offsetOf, range}
 use Rattle.octets.specs.Octets.{bigEndian, numberAt}
+use Rattle.field_station.specs.Demands.{firstLack}
 use Rattle.offers.specs.Offers.{exceedLimits, inForce, shiftsInForce}
 use Rattle.offers.specs.declared.Scale.{Scale}
 use Rattle.receive.specs.Ranges.{heldOf, isOutOfOrder, joined, leftOf, meets, noRoom, rangeOf, rangesAfter, rangesOf, rightOf}
@@ -26,11 +27,12 @@ use Rattle.connection.specs.declared.Connection.{Connection}
 use Rattle.connection.specs.declared.Setup.{Setup}
 use Rattle.connection.specs.Numbers.{Action, Decision, dropSilent, dropWithAck, refuse, reset, take}
 use Rattle.connection.specs.Opening.{OpeningAnswer, isNotSyn, isWrongAck, opening, openingFrom, recordFrom, recordWith}
+use Rattle.connection.specs.Profile.{profileOpening, underProfile}
 use Rattle.connection.specs.Verdict.{rows}
 use Rattle.connection.specs.Taking.{fedBy, recordAfter, sampleOf}
 use Rattle.connection.specs.Arriving.{arriving, arrivingRead, judged, settled, takenBy}
 use Rattle.connection.specs.Operations.{sent, windowOpened}
-use Rattle.connection.specs.Calls.{Call, Incoming, Opened, arrival, openedBy, recordsAfter, run, sending, timerCalls, unread}
+use Rattle.connection.specs.Calls.{Call, Incoming, Opened, Way, arrival, openedUnder, plain, profile, profiledBy, recordsAfter, run, sending, timerCalls, unread}
 
 -- octets of a segment: SEQ, ACK, flags, window, options and payload
 abbrev pub octets : ℕ → ℕ → ℕ → ℕ → List ℕ → ℕ → List ℕ
@@ -131,6 +133,10 @@ arrivals =
     ∷ (at base 5000 1001 16 (stamps 60 0) 10, decision 0 take)
     ∷ []
 
+-- the SYN of a peer that offers an MSS and a window of 4,000
+abbrev offering : ℕ → Incoming
+offering mss = unread (octets 4999 0 2 4000 (2 ∷ 4 ∷ (bigEndian 2 mss ++ stamps 50 0)) 0)
+
 -- openings, octets sent, a new window
 pub numbers : List (ℕ × ℕ)
 numbers =
@@ -140,24 +146,23 @@ numbers =
     ∷ (opens 65535 1000 18 .number, 11)
     ∷ (sent base 9 .number, 12)
     ∷ (windowOpened base 65534 .number, 13)
+    ∷ (profiledBy (own 65535) 100 (offering 535) .opening .number, 17)
     ∷ []
 
--- the SYN of a peer that offers an MSS of 100 and a window of 1,000, and the record that it opens
-abbrev offering : Incoming
-offering = unread (octets 4999 0 2 1000 (2 ∷ 4 ∷ 0 ∷ 100 ∷ stamps 50 0) 0)
+-- the record that such a SYN with an MSS of 600 opens, by either way
+abbrev pub sender : Way → Connection
+sender way = openedUnder way (own 65535) 100 (offering 600) .connection
 
-abbrev pub sender : Connection
-sender = openedBy (own 65535) 100 offering .connection
-
--- 401 octets are outstanding, our SYN among them, when a segment acknowledges 101 of them; its sample is 57 ms
+-- 3,401 octets are outstanding, our SYN among them, when a segment acknowledges 1,101 of them; its sample is 57 ms
 abbrev pub timed : List Call
-timed = sending 400 ∷ arrival 150 (unread (octets 5000 1101 16 1000 (stamps 60 100) 0)) ∷ []
+timed = sending 3400 ∷ arrival 150 (unread (octets 5000 2101 16 4000 (stamps 60 100) 0)) ∷ []
 
 pub cases : (map (λ c. c .0) arrivals ≡ map (λ c. c .1) arrivals)
     × (map (λ c. c .0) numbers ≡ map (λ c. c .1) numbers)
     × (opens 65535 0 2 .connection ≡ base)
     × (run base (ten 6000 ∷ ten 6100 ∷ ten 6200 ∷ ten 6300 ∷ ten 6400 ∷ ten 6500 ∷ ten 6600 ∷ ten 6700 ∷ []) ≡ full)
-    × (timerCalls sender timed ≡ rto.sample 57 3 ∷ [])
+    × (timerCalls (sender plain) timed ≡ rto.sample 57 3 ∷ [])
+    × (timerCalls (sender profile) timed ≡ rto.sample 57 3 ∷ [])
     × (map (λ (k : Connection). k .send .window) (base ∷ recordsAfter base rising) ≡ 9 ∷ 20 ∷ 5 ∷ [])
     × (run base rising .send .largest ≡ 20)
 unfolding arrivals numbers distanceOf offsetOf bigEndian numberAt exceedLimits inForce shiftsInForce heldOf isOutOfOrder joined leftOf meets noRoom
@@ -167,14 +172,15 @@ unfolding arrivals numbers distanceOf offsetOf bigEndian numberAt exceedLimits i
     send.updatesWindow send.windowed send.taken send.exceedsWindow send.sent isNotSyn isWrongAck opening openingFrom recordFrom recordWith
     timestamps.opened timestamps.isOld timestamps.isMissing timestamps.outdated timestamps.valueBefore timestamps.isRecorded
     timestamps.replacesRecent timestamps.taken rows fedBy recordAfter sampleOf arriving arrivingRead judged settled takenBy sent
-    windowOpened Option·elim
-cases = (refl, refl, refl, refl, refl, refl, refl)
+    windowOpened firstLack underProfile profileOpening Option·elim
+cases = (refl, refl, refl, refl, refl, refl, refl, refl)
 
 pub base-opened : Opened base
-base-opened = record { own = own 65535; clock = 100; syn = unread (octets 4999 0 2 9 (stamps 50 0) 0); opens = cases .2 }
+base-opened = record { way = plain; own = own 65535; clock = 100; syn = unread (octets 4999 0 2 9 (stamps 50 0) 0); opens = cases .2 }
 
-pub sender-opened : Opened sender
-sender-opened = record { own = own 65535; clock = 100; syn = offering; opens = refl }
+pub sender-opened : (way : Way) → Opened (sender way)
+sender-opened way = record { way = way; own = own 65535; clock = 100; syn = offering 600; opens = refl }
 
-pub timed-feeds : timerCalls sender timed ≡ rto.sample 57 3 ∷ []
-timed-feeds = cases .4
+pub timed-feeds : (way : Way) → timerCalls (sender way) timed ≡ rto.sample 57 3 ∷ []
+timed-feeds plain = cases .4
+timed-feeds profile = cases .5

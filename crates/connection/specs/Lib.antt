@@ -1,6 +1,7 @@
 pub mod Numbers
 pub mod Record
 pub mod Opening
+pub mod Profile
 pub mod Verdict
 pub mod Taking
 pub mod Arriving

@@ -1,11 +1,13 @@
--- Document 01's number, of 31 document 02's, what is done, and what is passed on of reading the options, for each case of the enums.
+-- Document 01's number, of 17 and 31 document 02's, what is done, and what is passed on of reading the options, for each case of the enums.
 use mathlib.Core.Option.{Option, none, some}
 use Prim.Native.Nat.{ℕ}
+use Rattle.field_station.specs.Demands.{lackValue}
 use Rattle.segment.specs.Reading.{faultPlace, numberOf}
 use Rattle.connection.specs.declared.ArriveOutcome.{ArriveOutcome}
 use Rattle.connection.specs.declared.ArriveRefusal.{ArriveRefusal}
 use Rattle.connection.specs.declared.OpenOutcome.{OpenOutcome}
 use Rattle.connection.specs.declared.OpenRefusal.{OpenRefusal}
+use Rattle.connection.specs.declared.ProfileOutcome.{ProfileOutcome}
 use Rattle.connection.specs.declared.Reason.{Reason}
 use Rattle.connection.specs.declared.Verdict.{Verdict}
 
@@ -34,6 +36,23 @@ openPlace (OpenOutcome.Refused why) = openRefusalPlace why
 abbrev pub openSkipped : OpenOutcome → Option ℕ
 openSkipped (OpenOutcome.Opened skipped) = some skipped
 openSkipped (OpenOutcome.Refused why) = none
+
+abbrev pub profileNumber : ProfileOutcome → ℕ
+profileNumber (ProfileOutcome.Opening outcome) = openNumber outcome
+profileNumber (ProfileOutcome.Lacking lack) = 17
+
+abbrev pub profilePlace : ProfileOutcome → Option ℕ
+profilePlace (ProfileOutcome.Opening outcome) = openPlace outcome
+profilePlace (ProfileOutcome.Lacking lack) = none
+
+abbrev pub profileSkipped : ProfileOutcome → Option ℕ
+profileSkipped (ProfileOutcome.Opening outcome) = openSkipped outcome
+profileSkipped (ProfileOutcome.Lacking lack) = none
+
+-- what stands beside E17
+abbrev pub profileLack : ProfileOutcome → Option ℕ
+profileLack (ProfileOutcome.Opening outcome) = none
+profileLack (ProfileOutcome.Lacking lack) = some (lackValue lack)
 
 abbrev pub reasonNumber : Reason → ℕ
 reasonNumber Reason.TimestampMissing = 21

@@ -2,14 +2,17 @@
 mod judging;
 mod listing;
 mod opening;
+mod profile;
 mod taking;
 
 ghost use mathlib.Core.Path.{_≡_};
-ghost use Rattle.connection.specs.Numbers.{arriveRefusalNumber, openNumber, openRefusalNumber, outcomeOf, outcomePlace, outcomeSkipped, reasonNumber, verdictOf};
+ghost use Rattle.connection.specs.Numbers.{arriveRefusalNumber, openNumber, openRefusalNumber, outcomeOf, outcomePlace, outcomeSkipped, profileNumber, reasonNumber, verdictOf};
 ghost use Rattle.connection.specs.Record.{Sound, blank};
 ghost use Rattle.connection.specs.Opening.{opening, openingRead, shownOpen};
+ghost use Rattle.connection.specs.Profile.{profileOpening, profileOpeningRead, shownProfile};
 ghost use Rattle.connection.specs.Arriving.{arriving, arrivingRead, isTake, shown, takenBy, unchanged};
 ghost use Rattle.connection.specs.Operations.{expired, sent, shownSent, shownWindow, windowOpened};
+use field_station::Lack;
 use offers::Offers;
 use receive::Part;
 use receive::Receive;
@@ -66,6 +69,20 @@ pub enum OpenOutcome {
 // Where the opening is refused, the connection is a blank one, the same for every refusal.
 pub struct OpenAnswer {
     pub outcome: OpenOutcome,
+    pub connection: Connection,
+}
+
+// What becomes of an opening under the field-station profile (document 02's term).
+pub enum ProfileOutcome {
+    // As without the profile.
+    Opening(OpenOutcome),
+    // E17, and the profile's first demand that is not met.
+    Lacking(Lack),
+}
+
+// The answer to an opening under the profile: where it is refused, the connection is the same blank one.
+pub struct ProfileAnswer {
+    pub outcome: ProfileOutcome,
     pub connection: Connection,
 }
 
@@ -133,7 +150,7 @@ pub struct WindowAnswer {
     pub connection: Connection,
 }
 
-// Document 01's number of each refusal, reason, verdict and outcome, of 31 document 02's.
+// Document 01's number of each refusal, reason, verdict and outcome, of 17 and 31 document 02's.
 impl OpenRefusal {
     pub fn number(self) -> u8
         ensures { λ r. ⌜ r ≡ openRefusalNumber self ⌝ }
@@ -154,6 +171,17 @@ impl OpenOutcome {
         match self {
             OpenOutcome::Opened(_) => 0,
             OpenOutcome::Refused(why) => why.number(),
+        }
+    }
+}
+
+impl ProfileOutcome {
+    pub fn number(self) -> u8
+        ensures { λ r. ⌜ r ≡ profileNumber self ⌝ }
+    {
+        match self {
+            ProfileOutcome::Opening(outcome) => outcome.number(),
+            ProfileOutcome::Lacking(_) => 17,
         }
     }
 }
@@ -218,13 +246,10 @@ impl Connection {
         ensures answer { λ r. ⌜ shownOpen r ≡ opening own clock (now (syn .entry)) ⌝ }
         ensures sound { λ r. ⌜ Sound (r .connection) ⌝ }
     {
-        if opening::exceeds_limits(own) {
-            return opening::refused(OpenRefusal::ExceededLimits);
-        }
         let reading = segment::read(syn);
         match reading {
-            Reading::Refused(why, _) => opening::refused(OpenRefusal::Segment(why)),
-            Reading::Segment(whole, _) => opening::open_from(own, clock, whole),
+            Reading::Refused(why, _) => opening::unreadable(own, why),
+            Reading::Segment(whole, _) => Connection::open_read(own, clock, whole),
         }
     }
 
@@ -237,6 +262,27 @@ impl Connection {
             return opening::refused(OpenRefusal::ExceededLimits);
         }
         opening::open_from(own, clock, syn)
+    }
+
+    // Opens a record under the field-station profile: E9, reading, E10, E11, E17.
+    pub fn open_under_profile(own: Setup, clock: u64, syn: &[u8]) -> ProfileAnswer
+        ensures answer { λ r. ⌜ shownProfile r ≡ profileOpening own clock (now (syn .entry)) ⌝ }
+        ensures sound { λ r. ⌜ Sound (r .connection) ⌝ }
+    {
+        let reading = segment::read(syn);
+        match reading {
+            Reading::Refused(why, _) => profile::as_opened(opening::unreadable(own, why)),
+            Reading::Segment(whole, _) => Connection::open_read_under_profile(own, clock, whole),
+        }
+    }
+
+    // The same from a SYN segment that has been read: E9, E10, E11, E17.
+    pub fn open_read_under_profile(own: Setup, clock: u64, syn: Segment) -> ProfileAnswer
+        ensures answer { λ r. ⌜ shownProfile r ≡ profileOpeningRead own clock syn ⌝ }
+        ensures sound { λ r. ⌜ Sound (r .connection) ⌝ }
+    {
+        let answer = Connection::open_read(own, clock, syn);
+        profile::judge(own.offers, answer, syn)
     }
 
     // The record of a refused opening.

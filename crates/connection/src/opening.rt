@@ -1,8 +1,11 @@
 // Opening a record from the peer's SYN segment.
+ghost use mathlib.Core.Bool.{cond};
+ghost use mathlib.Core.Option.{none};
 ghost use mathlib.Core.Path.{_≡_};
 ghost use Rattle.connection.specs.Numbers.{openRefusalNumber, openRefusalPlace};
 ghost use Rattle.connection.specs.Opening.{exceedsLimits, isNotSyn, isWrongAck, mssOf, openingFrom, peerOffers, recordFrom, recordWith, refusedOpening, shownOpen};
 ghost use Rattle.connection.specs.Record.{blank};
+ghost use Rattle.segment.specs.Reading.{faultPlace, numberOf};
 use super::Connection;
 use super::OpenAnswer;
 use super::OpenOutcome;
@@ -15,6 +18,7 @@ use offers::Offers;
 use receive::Receive;
 use rto::Timer;
 use segment::Mss;
+use segment::Refusal;
 use segment::Segment;
 use send::Send;
 use serial::Seq;
@@ -24,7 +28,7 @@ use timestamps::Timestamping;
 // The MSS of a SYN that has none.
 const DEFAULT_MSS: u16 = 536;
 
-fn mss(option: Mss) -> u16
+pub fn mss(option: Mss) -> u16
     ensures { λ r. ⌜ r ≡ mssOf option ⌝ }
 {
     match option {
@@ -34,7 +38,7 @@ fn mss(option: Mss) -> u16
 }
 
 // What the peer's SYN offers.
-fn peer_offers(syn: Segment) -> Offers
+pub fn peer_offers(syn: Segment) -> Offers
     ensures { λ r. ⌜ r ≡ peerOffers syn ⌝ }
 {
     let options = syn.options;
@@ -152,6 +156,16 @@ pub fn refused(why: OpenRefusal) -> OpenAnswer
         outcome,
         connection,
     }
+}
+
+// Octets that do not read: E9, or their refusal.
+pub fn unreadable(own: Setup, why: Refusal) -> OpenAnswer
+    ensures { λ r. ⌜ shownOpen r ≡ cond (exceedsLimits own) (refusedOpening 9 none) (refusedOpening (numberOf why) (faultPlace why)) ⌝ }
+{
+    if exceeds_limits(own) {
+        return refused(OpenRefusal::ExceededLimits);
+    }
+    refused(OpenRefusal::Segment(why))
 }
 
 // E10, E11, then the record.

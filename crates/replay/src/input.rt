@@ -51,7 +51,7 @@ fn least_length(call: u8, body: &[u8]) -> usize {
         // The count of kinds, and the kinds.
         2 => 1 + octets::read_u8(body, 0) as usize,
         3 | 11 | 14 => 8,
-        4 => 22,
+        4 | 19 => 22,
         5 => 8,
         6 | 7 => 4,
         8 => 12,

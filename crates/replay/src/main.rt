@@ -81,6 +81,7 @@ fn answer(state: State, call: u8, body: &[u8]) -> State
         4 => record_calls::open(state, body),
         5..=9 => record_calls::answer(state, call, body),
         10..=12 => timer_calls::answer(state, call, body),
+        19 => record_calls::open_under_profile(state, body),
         _ => {
             queries::answer(call, body);
             state

@@ -8,6 +8,7 @@ use crate::text;
 use acknowledgment::AckOutcome;
 use connection::Arrival;
 use connection::Connection;
+use connection::ProfileOutcome;
 use receive::Part;
 use writer::Ports;
 
@@ -16,13 +17,48 @@ pub fn open(state: State, body: &[u8]) -> State
     requires { ⌜ Sound (state .connection) ⌝ }
     ensures { λ r. ⌜ Sound (r .connection) ⌝ }
 {
-    let setup = script::setup(body);
-    let clock = body::read_u64(body::rest(body, 14));
-    let answer = Connection::open(setup, clock, body::rest(body, 22));
+    let answer = Connection::open(script::setup(body), opening_clock(body), opening_syn(body));
     let outcome = answer.outcome;
     text::start(b"open", outcome.number());
     place_or_count::of_opening(outcome);
-    with_record(state.opened(answer))
+    with_record(state.opened(outcome.number(), answer.connection))
+}
+
+// The same under the field-station profile.
+pub fn open_under_profile(state: State, body: &[u8]) -> State
+    requires { ⌜ Sound (state .connection) ⌝ }
+    ensures { λ r. ⌜ Sound (r .connection) ⌝ }
+{
+    let answer = Connection::open_under_profile(
+        script::setup(body),
+        opening_clock(body),
+        opening_syn(body),
+    );
+    let outcome = answer.outcome;
+    profile_numbers(outcome);
+    with_record(state.opened(outcome.number(), answer.connection))
+}
+
+fn opening_clock(body: &[u8]) -> u64 {
+    body::read_u64(body::rest(body, 14))
+}
+
+fn opening_syn(body: &[u8]) -> &[u8] {
+    body::rest(body, 22)
+}
+
+fn profile_numbers(outcome: ProfileOutcome) {
+    text::start(b"profile", outcome.number());
+    match outcome {
+        ProfileOutcome::Opening(outcome) => {
+            text::absent();
+            place_or_count::of_opening(outcome);
+        }
+        ProfileOutcome::Lacking(lack) => {
+            text::number(text::from_u8(lack.value()));
+            text::absent();
+        }
+    }
 }
 
 // Makes a call on the record, if one is open.

@@ -1,7 +1,6 @@
 // What a script works on: one connection record and one timer.
 ghost use Rattle.connection.specs.Record.{Sound};
 use connection::Connection;
-use connection::OpenAnswer;
 use rto::Timer;
 
 pub struct State {
@@ -25,17 +24,15 @@ pub fn new() -> State
 }
 
 impl State {
-    // The state with the record that was opened, or as it was where the opening was refused.
-    pub fn opened(self, answer: OpenAnswer) -> State
+    // The state with the record that was opened, or as it was where the opening was refused by this number.
+    pub fn opened(self, number: u8, connection: Connection) -> State
         requires { ⌜ Sound (self .connection) ⌝ }
-        requires { ⌜ Sound (answer .connection) ⌝ }
+        requires { ⌜ Sound connection ⌝ }
         ensures { λ r. ⌜ Sound (r .connection) ⌝ }
     {
-        let outcome = answer.outcome;
-        if outcome.number() != 0 {
+        if number != 0 {
             return self;
         }
-        let connection = answer.connection;
         State {
             open: true,
             connection,

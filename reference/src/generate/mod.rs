@@ -6,11 +6,12 @@ mod clock;
 mod damage;
 mod edges;
 mod opening;
+mod profile;
 mod steps;
 mod unknown;
 
 use crate::connection::Connection;
-use crate::play::Player;
+use crate::play::{say_opened, Player};
 use crate::random::Random;
 use crate::script::{Call, MAX_BODY};
 use crate::serial::HALF;
@@ -19,6 +20,7 @@ use crate::timer::{Sample, LEAST_MSS, MAX_EXPECTED, MAX_SAMPLE, MAX_SMOOTHED, RO
 use self::ack_run::AckRun;
 use self::clock::Clock;
 use self::edges::{beside, serial_near};
+use self::opening::PeerOffers;
 
 /// How many recent segments are kept to be sent again.
 const RECENT_SEGMENTS: usize = 16;
@@ -26,10 +28,11 @@ const RECENT_SEGMENTS: usize = 16;
 /// One segment in so many is about as long as a segment can be, by the calls that bring it.
 const LONG_ARRIVAL_RATE: u64 = 1_500;
 const LONG_SYN_RATE: u64 = 200;
+const LONG_PROFILE_SYN_RATE: u64 = 25;
 const LONG_FREE_RATE: u64 = 400;
 
 /// Calls that are unknown, too long, or one octet short.
-const BAD_CALLS: [&[u8]; 14] = [
+const BAD_CALLS: [&[u8]; 15] = [
     &[0, 0, 0, 0, 0],
     &[255, 0, 0, 0, 0],
     &[200, 0, 0, 0, 1, 0],
@@ -44,6 +47,9 @@ const BAD_CALLS: [&[u8]; 14] = [
     &[8, 0, 0, 0, 11, 0, 0, 0, 0, 0, 0, 0, 0, 0, 0, 0],
     &[11, 0, 0, 0, 7, 0, 0, 0, 0, 0, 0, 0],
     &[15, 0, 0, 0, 15, 0, 0, 0, 0, 0, 0, 0, 0, 0, 0, 0, 0, 0, 0, 0],
+    &[
+        19, 0, 0, 0, 21, 0, 0, 0, 0, 0, 0, 0, 0, 0, 0, 0, 0, 0, 0, 0, 0, 0, 0, 0, 0, 0,
+    ],
 ];
 
 /// How the segments of a connection lie; chosen anew at each opening.
@@ -130,7 +136,7 @@ impl Generator {
     }
 
     fn add_call_unopened(&mut self) {
-        match self.random.below(100) {
+        match self.random.below(120) {
             0..=59 => self.add_open(),
             60..=63 => self.push(&Call::Sent { count: 0 }),
             64..=67 => self.push(&Call::Window { window: 9 }),
@@ -145,12 +151,13 @@ impl Generator {
                 clock: 0,
                 buffer: &[0; 20],
             }),
+            80..=99 => self.add_open_under_profile(),
             _ => self.add_free_call(),
         }
     }
 
     fn add_call_on(&mut self, connection: &Connection) {
-        match self.random.below(1_000) {
+        match self.random.below(1_050) {
             0..=579 => self.add_arrive(connection),
             580..=669 => self.add_acknowledge(connection),
             670..=759 => self.add_sent(connection),
@@ -160,20 +167,28 @@ impl Generator {
             820..=834 if self.pattern != Pattern::Holes => self.add_open(),
             835..=849 => self.add_open(),
             850..=855 if ack_run::is_possible(connection) => self.begin_ack_run(connection),
+            1_000..=1_039 if self.pattern != Pattern::Holes => self.add_open_under_profile(),
+            1_040..=1_049 => self.add_open_under_profile(),
             _ => self.add_free_call(),
         }
     }
 
     fn add_open(&mut self) {
         let opening = self.random_opening();
-        let segment = self.random_syn(&opening);
-        self.push(&Call::Open {
+        let offers = PeerOffers::random(&mut self.random);
+        let segment = self.random_syn(&opening, &offers, LONG_SYN_RATE);
+        let call = Call::Open {
             opening,
             segment: &segment,
-        });
-        let opened = self.lines.starts_with("open 0");
-        if opened {
-            self.clock.set(opening.clock);
+        };
+        self.push_opening(&call, opening.clock);
+    }
+
+    /// Makes an opening; a record that it opens starts anew.
+    fn push_opening(&mut self, call: &Call, clock: u64) {
+        self.push(call);
+        if say_opened(&self.lines) {
+            self.clock.set(clock);
             self.recent.clear();
             self.pattern = self
                 .random
@@ -409,10 +424,25 @@ mod tests {
     }
 
     #[test]
+    fn the_profile_opens_records_that_live_on_and_refuses_for_each_lack() {
+        let counts = Counts::of(&random_script(10, 40_000));
+        for number in [0, 9, 10, 11] {
+            let given = counts.count("profile", number);
+            assert!(given >= 30, "{} {}", number, given);
+        }
+        for lack in 1..=3 {
+            let told = counts.lack(lack);
+            assert!(told >= 60, "{} {}", lack, told);
+        }
+        // So many takes for each record.
+        assert!(counts.taken_under_profile() >= 10 * counts.count("profile", 0));
+    }
+
+    #[test]
     fn places_counts_and_steps_go_far() {
         // With fewer calls it hangs on the seed whether openings get there.
         let counts = Counts::of(&random_script(6, 320_000));
-        for name in ["read", "open", "arrive"] {
+        for name in ["read", "open", "arrive", "profile"] {
             let most = |number| counts.span(name, number).map_or(0, |(_, most)| most);
             assert!(most(0) >= 10, "{} {}", name, most(0));
             for number in 4..=6 {

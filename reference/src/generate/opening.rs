@@ -9,7 +9,26 @@ use crate::serial::{Seq, Stamp};
 use super::arrival::longest_length;
 use super::clock::opening_clock;
 use super::edges::{beside, serial_near, serial_start};
-use super::{damage, unknown, Generator, LONG_SYN_RATE};
+use super::{damage, unknown, Generator};
+
+/// What the peer's SYN offers.
+pub struct PeerOffers {
+    pub mss: Option<u16>,
+    pub shift: Option<u8>,
+    pub sack: bool,
+    pub timestamps: bool,
+}
+
+impl PeerOffers {
+    pub fn random(random: &mut Random) -> PeerOffers {
+        PeerOffers {
+            mss: random.percent(70).then(|| random_mss(random)),
+            shift: random.percent(80).then(|| random_peer_shift(random)),
+            sack: random.percent(80),
+            timestamps: random.percent(85),
+        }
+    }
+}
 
 impl Generator {
     pub(super) fn random_opening(&mut self) -> Opening {
@@ -26,7 +45,13 @@ impl Generator {
         }
     }
 
-    pub(super) fn random_syn(&mut self, opening: &Opening) -> Vec<u8> {
+    /// The peer's SYN with these offers; one in `long_rate` is about as long as a segment can be.
+    pub(super) fn random_syn(
+        &mut self,
+        opening: &Opening,
+        offers: &PeerOffers,
+        long_rate: u64,
+    ) -> Vec<u8> {
         let random = &mut self.random;
         let first = opening.iss.plus(1);
         let ack = if random.percent(85) {
@@ -36,18 +61,16 @@ impl Generator {
         };
         let mut syn = SegmentBuilder::new(Seq(serial_start(random)), ack, syn_flags(random))
             .window(random_window_field(random));
-        if random.percent(70) {
-            syn = syn.mss(random_mss(random));
+        if let Some(mss) = offers.mss {
+            syn = syn.mss(mss);
         }
-        if random.percent(80) {
-            let shift = random.next_u8();
-            let shift = random.pick(&[0, 1, 7, 13, 14, 14, 15, shift]);
+        if let Some(shift) = offers.shift {
             syn = syn.scale(shift);
         }
-        if random.percent(80) {
+        if offers.sack {
             syn = syn.sack_permitted();
         }
-        if random.percent(85) {
+        if offers.timestamps {
             syn = syn.timestamps(Stamp(serial_start(random)), Stamp(random.next_u32()));
         }
         if random.percent(5) {
@@ -60,7 +83,7 @@ impl Generator {
         if random.percent(12) {
             damage::damage(random, &mut octets);
         }
-        if self.wants_long_body(LONG_SYN_RATE) {
+        if self.wants_long_body(long_rate) {
             octets.resize(longest_length(&mut self.random), 0);
         }
         octets
@@ -109,6 +132,11 @@ fn random_offset(random: &mut Random, clock: u64) -> u32 {
 fn random_mss(random: &mut Random) -> u16 {
     let any = random.next_u16();
     random.pick(&[0, 63, 64, 65, 536, 1_460, 1_460, u16::MAX, any])
+}
+
+fn random_peer_shift(random: &mut Random) -> u8 {
+    let any = random.next_u8();
+    random.pick(&[0, 1, 7, 13, 14, 14, 15, any])
 }
 
 fn syn_flags(random: &mut Random) -> u8 {

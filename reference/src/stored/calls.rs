@@ -49,6 +49,13 @@ impl CallList {
         });
     }
 
+    pub fn open_under_profile(&mut self, opening: &Opening, syn: &SegmentBuilder) {
+        self.add(&Call::OpenUnderProfile {
+            opening: *opening,
+            segment: &syn.build(),
+        });
+    }
+
     /// Opens the shared record with nothing in force.
     pub fn open_plain(&mut self) {
         self.open(&opening(), &syn());

@@ -14,6 +14,7 @@ mod marked;
 mod numbers;
 mod offering;
 mod opening;
+mod profile;
 mod ranges;
 mod reading;
 mod records;
@@ -61,6 +62,7 @@ pub fn script() -> Vec<u8> {
     finding::add(&mut calls);
     offering::add(&mut calls);
     opening::add(&mut calls);
+    profile::add(&mut calls);
     verdicts::add(&mut calls);
     judging::add(&mut calls);
     taking::add(&mut calls);
@@ -98,7 +100,12 @@ mod tests {
 
     #[test]
     fn every_number_is_reached_by_every_call_that_can_give_it() {
-        assert!(Counts::of(&script()).never_reached().is_empty());
+        let counts = Counts::of(&script());
+        // One more segment of 65,536 octets would take the script past its size.
+        assert_eq!(counts.never_reached(), [("profile", 2)]);
+        for lack in 1..=3 {
+            assert!(counts.lack(lack) > 0, "{}", lack);
+        }
     }
 
     #[test]
@@ -110,6 +117,12 @@ mod tests {
             assert_eq!(counts.span(name, 5), Some((20, 58)));
             assert_eq!(counts.span(name, 6), Some((22, 58)));
         }
+        // Timestamps leave room for 15 unknown options.
+        assert_eq!(counts.span("profile", 0), Some((0, 15)));
+        assert_eq!(counts.span("profile", 4), Some((20, 59)));
+        assert_eq!(counts.span("profile", 5), Some((20, 58)));
+        assert_eq!(counts.span("profile", 6), Some((22, 58)));
+        assert_eq!(counts.span("profile", 17), None);
         for number in 21..=31 {
             assert!(matches!(counts.span("arrive", number), Some((0, 1..))));
         }
@@ -154,8 +167,10 @@ mod tests {
     fn every_call_on_no_record_is_closed() {
         let lines = play(&script());
         let closed = lines.lines().filter(|&line| line == "closed").count();
-        assert_eq!(closed, 5);
-        assert!(lines.contains("open 9 -\nrecord -\n"));
+        assert_eq!(closed, 10);
+        for refused in ["open 9 -", "profile 9 - -", "profile 17 1 -"] {
+            assert!(lines.contains(&format!("{}\nrecord -\n", refused)));
+        }
     }
 
     #[test]

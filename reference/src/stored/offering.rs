@@ -1,5 +1,6 @@
 //! Offers: what is in force by the offers of both sides, the limits of E9, and the octets that bring our offers.
 
+use crate::builder::SegmentBuilder;
 use crate::cases::{opening, syn};
 use crate::connection::Opening;
 use crate::script::Call;
@@ -112,17 +113,26 @@ fn octets(calls: &mut CallList) {
 
 /// Opens with a shift octet and an offers octet as they are, and a SYN with these flags that offers everything.
 pub fn open_with_octets(calls: &mut CallList, opening: &Opening, shift: u8, offers: u8, flags: u8) {
-    let everything = syn()
+    let call = Call::Open {
+        opening: *opening,
+        segment: &everything(flags).build(),
+    };
+    add_with_octets(calls, &call, shift, offers);
+}
+
+/// The peer's SYN with these flags and every offer.
+pub fn everything(flags: u8) -> SegmentBuilder {
+    syn()
         .flags(flags)
         .scale(5)
         .sack_permitted()
-        .timestamps(Stamp(3), Stamp(0));
-    let call = Call::Open {
-        opening: *opening,
-        segment: &everything.build(),
-    };
+        .timestamps(Stamp(3), Stamp(0))
+}
+
+/// Adds an opening with a shift octet and an offers octet as they are.
+pub fn add_with_octets(calls: &mut CallList, opening: &Call, shift: u8, offers: u8) {
     let mut script = Vec::new();
-    call.encode(&mut script);
+    opening.encode(&mut script);
     script[9] = shift;
     script[10] = offers;
     calls.add_encoded(&script);

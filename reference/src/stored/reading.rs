@@ -25,14 +25,13 @@ pub fn add(calls: &mut CallList) {
     }
 }
 
-/// By read, by the C entry, by an arrival and by an opening.
+/// By read, by the C entry, by an arrival and by both ways of opening.
 pub fn add_everywhere(calls: &mut CallList, segment: &[u8]) {
     calls.read_by_both(segment);
     calls.arrive_octets(CLOCK, segment);
-    calls.add(&Call::Open {
-        opening: opening(),
-        segment,
-    });
+    let opening = opening();
+    calls.add(&Call::Open { opening, segment });
+    calls.add(&Call::OpenUnderProfile { opening, segment });
 }
 
 fn header() -> SegmentBuilder {
