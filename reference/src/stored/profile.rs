@@ -258,23 +258,31 @@ fn largest_numbers(calls: &mut CallList) {
     }
 }
 
+/// The first window is past its limit: E9.
+fn too_wide(opening: Opening) -> Opening {
+    Opening {
+        window: 65_536,
+        ..opening
+    }
+}
+
+/// The peer's ACK is not for this ISS: E11 where it has one.
+fn other_iss(opening: Opening) -> Opening {
+    Opening {
+        iss: Seq(1_001),
+        ..opening
+    }
+}
+
 /// Each refusal of the base, in its order, whatever is lacking beside it.
 fn base_first(calls: &mut CallList) {
     sampled(calls);
     for offers in met_and_unmet() {
         let (opening, syn) = (offers.opening(), offers.syn());
-        let too_wide = Opening {
-            window: 65_536,
-            ..opening
-        };
-        let other_iss = Opening {
-            iss: Seq(1_001),
-            ..opening
-        };
-        calls.open_under_profile(&too_wide, &syn);
+        calls.open_under_profile(&too_wide(opening), &syn);
         calls.open_under_profile(&opening, &syn.clone().options(&[254, 1]));
         calls.open_under_profile(&opening, &syn.clone().flags(SYN | RST));
-        calls.open_under_profile(&other_iss, &syn.flags(SYN | ACK));
+        calls.open_under_profile(&other_iss(opening), &syn.flags(SYN | ACK));
     }
     for offers in [MET, UNMET] {
         let (opening, syn) = (offers.opening(), offers.syn());
@@ -298,20 +306,12 @@ fn base_first(calls: &mut CallList) {
 /// Two refusals of the base beside all that is lacking: E9 and E1, E4 and E10, E10 and E11.
 fn in_its_order(calls: &mut CallList) {
     let (opening, syn) = (UNMET.opening(), UNMET.syn());
-    let too_wide = Opening {
-        window: 65_536,
-        ..opening
-    };
-    let other_iss = Opening {
-        iss: Seq(1_001),
-        ..opening
-    };
     calls.add(&Call::OpenUnderProfile {
-        opening: too_wide,
+        opening: too_wide(opening),
         segment: &[],
     });
     calls.open_under_profile(&opening, &syn.clone().flags(RST).options(&[254, 1]));
-    calls.open_under_profile(&other_iss, &syn.flags(SYN | RST | ACK));
+    calls.open_under_profile(&other_iss(opening), &syn.flags(SYN | RST | ACK));
 }
 
 /// What is refused leaves the record, and the base still opens what the profile does not.
