@@ -292,16 +292,12 @@ fn refused_opening(calls: &mut CallList) {
 #[cfg(test)]
 mod tests {
     use super::*;
-    use crate::play::play;
 
     /// The number of each arrival.
     fn numbers(cases: fn(&mut CallList)) -> Vec<u8> {
-        let mut calls = CallList::default();
-        cases(&mut calls);
-        let lines = play(&calls.into_script());
-        let arrivals = lines.lines().filter(|line| line.starts_with("arrive"));
-        let number = |line: &str| line.split(' ').nth(1).and_then(|word| word.parse().ok());
-        arrivals.filter_map(number).collect()
+        let arrivals = CallList::answers(cases, "arrive");
+        let number = |line: &String| line.split(' ').nth(1).and_then(|word| word.parse().ok());
+        arrivals.iter().filter_map(number).collect()
     }
 
     #[test]

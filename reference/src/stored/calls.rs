@@ -8,7 +8,11 @@ use crate::serial::Stamp;
 use crate::timer::Sample;
 
 #[cfg(test)]
-use crate::{connection::Connection, play::Player, script::Calls};
+use crate::{
+    connection::Connection,
+    play::{play, Player},
+    script::Calls,
+};
 
 const FILLER: u8 = 0xee;
 
@@ -153,6 +157,15 @@ impl CallList {
 
 #[cfg(test)]
 impl CallList {
+    /// What these cases answer, of the lines that begin with this word.
+    pub fn answers(cases: fn(&mut CallList), word: &str) -> Vec<String> {
+        let mut calls = CallList::default();
+        cases(&mut calls);
+        let lines = play(&calls.script);
+        let answers = lines.lines().filter(|line| line.starts_with(word));
+        answers.map(str::to_string).collect()
+    }
+
     /// The record that the calls lead to.
     pub fn connection(&self) -> Connection {
         let mut player = Player::default();

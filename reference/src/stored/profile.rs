@@ -357,16 +357,13 @@ fn timer_by_itself(calls: &mut CallList) {
 mod tests {
     use super::*;
     use crate::connection::Connection;
-    use crate::play::{play, Player};
+    use crate::play::Player;
     use crate::script::Calls;
 
-    /// The number of each opening under the profile, or ten times 17 and the lack.
+    /// The number of each opening under the profile; with a lack, ten times the number, and the lack added.
     fn numbers(cases: fn(&mut CallList)) -> Vec<u8> {
-        let mut calls = CallList::default();
-        cases(&mut calls);
-        let lines = play(&calls.into_script());
-        let answers = lines.lines().filter(|line| line.starts_with("profile"));
-        answers.map(number).collect()
+        let answers = CallList::answers(cases, "profile");
+        answers.iter().map(|line| number(line)).collect()
     }
 
     fn number(line: &str) -> u8 {
