@@ -1,4 +1,7 @@
 // Acknowledgments: what a record says to the peer, written into a buffer.
+
+#![tactic(auto)]
+
 ghost use Rattle.std.specs.Prelude.{◌≡◌, ◌≤◌, min, take};
 ghost use Rattle.segment.specs.Options.{block_list};
 ghost use Rattle.receive.specs.Ranges.{ranges_of};
@@ -16,7 +19,7 @@ use timestamps::Timestamping;
 use writer::{Header, Ports, Writing};
 
 // Why an acknowledgment is refused.
-#[derive(Drop)]
+#[derive(Clone, Copy)]
 pub enum AckRefusal {
     // E8.
     ClockBack,
@@ -25,14 +28,14 @@ pub enum AckRefusal {
 }
 
 // How many octets were written, or the refusal.
-#[derive(Drop)]
+#[derive(Clone, Copy)]
 pub enum AckOutcome {
     Written(usize),
     Refused(AckRefusal),
 }
 
 // Where the acknowledgment is refused, the connection is the one that was passed.
-#[derive(Drop)]
+#[derive(Clone, Copy)]
 pub struct AckAnswer {
     pub outcome: AckOutcome,
     pub connection: Connection,

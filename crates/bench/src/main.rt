@@ -1,4 +1,7 @@
 // Takes one recorded stream of calls many times, so that the time of each can be measured from outside; docs/SPEED.md has the format.
+
+#![tactic(auto)]
+
 mod acknowledging;
 mod preparing;
 mod rounds;

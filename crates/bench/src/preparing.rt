@@ -5,7 +5,7 @@ ghost use Rattle.connection.specs.Record.{Sound};
 use crate::{segments, stream};
 use connection::Connection;
 
-#[derive(Drop)]
+#[derive(Clone, Copy)]
 pub struct Prepared {
     pub connection: Connection,
     // Whether a call was none of those that prepare a record.

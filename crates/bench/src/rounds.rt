@@ -7,7 +7,7 @@ use crate::{acknowledging, segments, sums};
 use connection::Connection;
 
 // The record after some calls, and the sum of their answers.
-#[derive(Drop)]
+#[derive(Clone, Copy)]
 pub struct Made {
     pub connection: Connection,
     pub sum: u64,

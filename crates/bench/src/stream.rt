@@ -4,7 +4,7 @@ ghost use Rattle.std.specs.Prelude.{◌≡◌, ◌+◌, ◌<◌, ◌≤◌, leng
 use libc::STDIN_FILENO;
 
 // Where the prepared calls end, which start at 0, and where the measured ones do, which follow them.
-#[derive(Drop)]
+#[derive(Clone, Copy)]
 pub struct Extent {
     pub prepared: usize,
     pub end: usize,

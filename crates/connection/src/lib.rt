@@ -1,4 +1,7 @@
 // The record of one connection: opening it, arriving segments, octets sent, the receive window, expiry.
+
+#![tactic(auto)]
+
 mod judging;
 mod listing;
 mod opening;
@@ -22,7 +25,7 @@ use send::{Send, SentOutcome};
 use serial::Seq;
 use timestamps::Timestamping;
 
-#[derive(Drop)]
+#[derive(Clone, Copy)]
 pub struct Connection {
     pub receive: Receive,
     pub send: Send,
@@ -35,7 +38,7 @@ pub struct Connection {
 }
 
 // What an opening is given beside the clock and the peer's SYN segment.
-#[derive(Drop)]
+#[derive(Clone, Copy)]
 pub struct Setup {
     pub iss: Seq,
     pub offers: Offers,
@@ -46,7 +49,7 @@ pub struct Setup {
 }
 
 // Why an opening is refused.
-#[derive(Drop)]
+#[derive(Clone, Copy)]
 pub enum OpenRefusal {
     // E9.
     ExceededLimits,
@@ -58,7 +61,7 @@ pub enum OpenRefusal {
     WrongAck,
 }
 
-#[derive(Drop)]
+#[derive(Clone, Copy)]
 pub enum OpenOutcome {
     // How many unknown options of the SYN segment were skipped.
     Opened(usize),
@@ -66,14 +69,14 @@ pub enum OpenOutcome {
 }
 
 // Where the opening is refused, the connection is a blank one, the same for every refusal.
-#[derive(Drop)]
+#[derive(Clone, Copy)]
 pub struct OpenAnswer {
     pub outcome: OpenOutcome,
     pub connection: Connection,
 }
 
 // What becomes of an opening under the field-station profile (document 02's term).
-#[derive(Drop)]
+#[derive(Clone, Copy)]
 pub enum ProfileOutcome {
     // As without the profile.
     Opening(OpenOutcome),
@@ -82,14 +85,14 @@ pub enum ProfileOutcome {
 }
 
 // The answer to an opening under the profile: where it is refused, the connection is the same blank one.
-#[derive(Drop)]
+#[derive(Clone, Copy)]
 pub struct ProfileAnswer {
     pub outcome: ProfileOutcome,
     pub connection: Connection,
 }
 
 // Why a segment is dropped.
-#[derive(Drop)]
+#[derive(Clone, Copy)]
 pub enum Reason {
     // 21 and 22.
     TimestampMissing,
@@ -109,7 +112,7 @@ pub enum Reason {
 }
 
 // What becomes of an arriving segment.
-#[derive(Drop)]
+#[derive(Clone, Copy)]
 pub enum Verdict {
     Take,
     // 25.
@@ -120,7 +123,7 @@ pub enum Verdict {
 }
 
 // Why an arriving segment is refused.
-#[derive(Drop)]
+#[derive(Clone, Copy)]
 pub enum ArriveRefusal {
     // E1 to E6, an option at fault with its place.
     Segment(Refusal),
@@ -128,7 +131,7 @@ pub enum ArriveRefusal {
     ClockBack,
 }
 
-#[derive(Drop)]
+#[derive(Clone, Copy)]
 pub enum ArriveOutcome {
     // The verdict, and how many unknown options of the segment were skipped.
     Judged(Verdict, usize),
@@ -136,7 +139,7 @@ pub enum ArriveOutcome {
 }
 
 // The answer to an arriving segment. Only a take has a new part, a FIN in it, listed SACK blocks and a changed connection.
-#[derive(Drop)]
+#[derive(Clone, Copy)]
 pub struct Arrival {
     pub outcome: ArriveOutcome,
     pub part: Part,
@@ -147,13 +150,13 @@ pub struct Arrival {
 }
 
 // The answer to octets noted as sent, and to a new receive window: where it is refused, the connection is the one before the call.
-#[derive(Drop)]
+#[derive(Clone, Copy)]
 pub struct SentAnswer {
     pub outcome: SentOutcome,
     pub connection: Connection,
 }
 
-#[derive(Drop)]
+#[derive(Clone, Copy)]
 pub struct WindowAnswer {
     pub outcome: WindowOutcome,
     pub connection: Connection,

@@ -1,5 +1,8 @@
 // What the field-station profile demands of an opening (document 02's term): timestamps from both sides, any offered shift at most 7, and the
 // peer's MSS at least 536.
+
+#![tactic(auto)]
+
 ghost use Rattle.std.specs.Prelude.{◌≡◌};
 ghost use Rattle.field_station.specs.Demands.{first_lack, is_small, lack_of, lack_value, shifts_met, timestamps_met};
 
@@ -12,7 +15,7 @@ const MAX_OFFERED_SHIFT: u8 = 7;
 const LEAST_MSS: u16 = 536;
 
 // A demand that is not met.
-#[derive(Drop)]
+#[derive(Clone, Copy)]
 pub enum Lack {
     // 1 to 3.
     Timestamps,
@@ -20,7 +23,7 @@ pub enum Lack {
     Mss,
 }
 
-#[derive(Drop)]
+#[derive(Clone, Copy)]
 pub enum Fitness {
     Meets,
     // The first demand that is not met.

@@ -1,4 +1,7 @@
 // What a gateway written in C calls; `gateway/noppalerk.h` has the same three functions for C.
+
+#![tactic(auto)]
+
 ghost use Rattle.std.specs.Prelude.{◌≡◌};
 ghost use Rattle.rto.specs.Timer.{milliseconds_of};
 ghost use Rattle.segment.specs.Reading.{reading};

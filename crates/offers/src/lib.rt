@@ -1,4 +1,7 @@
 // What a side offers when a connection opens, the limits of its own offers, and what is in force when both sides have offered.
+
+#![tactic(auto)]
+
 ghost use Rattle.std.specs.Prelude.{◌≡◌, ◌&&◌, min};
 ghost use Rattle.offers.specs.Offers.{exceed_limits, in_force, is_large, shifts_in_force};
 
@@ -9,13 +12,13 @@ const MAX_SHIFT: u8 = 14;
 const MAX_FIRST_WINDOW: u32 = 65_535;
 
 // The window scale that a side offers, or none; a shift above 14 too.
-#[derive(Drop)]
+#[derive(Clone, Copy)]
 pub enum Scale {
     Absent,
     Shift(u8),
 }
 
-#[derive(Drop)]
+#[derive(Clone, Copy)]
 pub struct Offers {
     pub scale: Scale,
     pub timestamps: bool,
@@ -23,13 +26,13 @@ pub struct Offers {
 }
 
 // The shifts of both windows: ours for the receive window, the peer's for the send window.
-#[derive(Drop)]
+#[derive(Clone, Copy)]
 pub struct Shifts {
     pub receive: u8,
     pub send: u8,
 }
 
-#[derive(Drop)]
+#[derive(Clone, Copy)]
 pub struct InForce {
     // 0 and 0 where scaling is not in force.
     pub shifts: Shifts,

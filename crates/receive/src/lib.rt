@@ -1,5 +1,8 @@
 // The receive side of a connection: RCV.NXT, the window above it and the ranges held there; which segments are acceptable, the part of
 // one that is new, and what taking it does.
+
+#![tactic(auto)]
+
 mod ranges;
 mod window;
 
@@ -13,13 +16,13 @@ ghost use Rattle.receive.specs.Window.{acceptable, fin_inside, is_window_refused
 use serial::{Range, Seq};
 
 // The first `count` ranges are held, newest first; the other slots are unused, and all alike.
-#[derive(Drop)]
+#[derive(Clone, Copy)]
 pub struct Held {
     pub ranges: [Range; 8],
     pub count: usize,
 }
 
-#[derive(Drop)]
+#[derive(Clone, Copy)]
 pub struct Receive {
     // RCV.NXT.
     pub nxt: Seq,
@@ -32,14 +35,14 @@ pub struct Receive {
 }
 
 // A part of the window: the offsets from RCV.NXT from `from` up to `to`, which is not among them.
-#[derive(Drop)]
+#[derive(Clone, Copy)]
 pub struct Part {
     pub from: u32,
     pub to: u32,
 }
 
 // What a new receive window answers.
-#[derive(Drop)]
+#[derive(Clone, Copy)]
 pub enum WindowOutcome {
     Opened,
     // E13.
@@ -47,7 +50,7 @@ pub enum WindowOutcome {
 }
 
 // Where the window is refused, the receive side is as it was.
-#[derive(Drop)]
+#[derive(Clone, Copy)]
 pub struct WindowAnswer {
     pub outcome: WindowOutcome,
     pub receive: Receive,

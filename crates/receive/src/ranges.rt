@@ -9,7 +9,7 @@ use super::{Held, Part};
 use serial::{Range, Seq};
 
 // A part joined with the ranges that it meets, and the other ranges.
-#[derive(Drop)]
+#[derive(Clone, Copy)]
 pub struct Absorbed {
     pub part: Part,
     pub rest: Held,

@@ -5,7 +5,7 @@ use libc::STDIN_FILENO;
 // The most octets of a body.
 const MAX_BODY: usize = 65_664;
 
-#[derive(Drop)]
+#[derive(Clone, Copy)]
 pub enum Input {
     // A call and the length of its body.
     Call(u8, usize),

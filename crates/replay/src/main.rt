@@ -1,4 +1,7 @@
 // Replays a script of calls from standard input on one connection record and one timer, and writes a line or two of text for each.
+
+#![tactic(auto)]
+
 mod body;
 mod input;
 mod letters;
@@ -16,7 +19,7 @@ use input::Input;
 use state::State;
 
 // The state after a turn, and whether another turn follows.
-#[derive(Drop)]
+#[derive(Clone, Copy)]
 struct Turn {
     state: State,
     more: bool,

@@ -4,7 +4,7 @@ ghost use Rattle.connection.specs.Record.{Sound};
 use connection::Connection;
 use rto::Timer;
 
-#[derive(Drop)]
+#[derive(Clone, Copy)]
 pub struct State {
     // Whether a record has been opened; until then the connection is a blank one.
     pub open: bool,

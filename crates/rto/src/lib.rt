@@ -1,5 +1,8 @@
 // The retransmission timer of RFC 6298, by value, with the weights of RFC 7323, Appendix G. The smoothed round-trip time S and its variation V
 // are kept in 1/256 ms.
+
+#![tactic(auto)]
+
 mod estimate;
 
 ghost use Rattle.std.specs.Prelude.{◌≡◌, true};
@@ -15,7 +18,7 @@ const MAX_EXPECTED: u32 = 16;
 // The most that samples can make of S or V, in 1/256 ms.
 const MAX_ESTIMATE: u64 = 153_600_000;
 
-#[derive(Drop)]
+#[derive(Clone, Copy)]
 pub struct Timer {
     // S, 0 until a sample sets it.
     pub srtt: u32,
@@ -28,7 +31,7 @@ pub struct Timer {
 }
 
 // What a round-trip sample answers.
-#[derive(Drop)]
+#[derive(Clone, Copy)]
 pub enum SampleAnswer {
     Moved(Timer),
     // E14.

@@ -1,4 +1,7 @@
 // What a call of a script holds beside its segment, in the format of docs/REPLAY.md; the programs share it.
+
+#![tactic(auto)]
+
 ghost use Rattle.std.specs.Prelude.{◌≡◌};
 ghost use Rattle.script.specs.Setup.{offers_in, scale_in, setup_in};
 

@@ -1,4 +1,7 @@
 // A TCP segment: header, options and where the payload lies, read from any octets.
+
+#![tactic(auto)]
+
 mod finding;
 mod fixed_header;
 pub mod kinds;
@@ -21,7 +24,7 @@ const FIXED_HEADER: usize = 20;
 const MAX_SEGMENT: usize = 65_535;
 
 // The flags of octet 13, from its highest bit.
-#[derive(Drop)]
+#[derive(Clone, Copy)]
 pub struct Flags {
     pub cwr: bool,
     pub ece: bool,
@@ -34,21 +37,21 @@ pub struct Flags {
 }
 
 // The maximum segment size, in octets.
-#[derive(Drop)]
+#[derive(Clone, Copy)]
 pub enum Mss {
     Absent,
     Octets(u16),
 }
 
 // TSval and TSecr, in this order.
-#[derive(Drop)]
+#[derive(Clone, Copy)]
 pub enum Timestamps {
     Absent,
     Pair(Stamp, Stamp),
 }
 
 // The blocks of a SACK option, in their order.
-#[derive(Drop)]
+#[derive(Clone, Copy)]
 pub enum SackBlocks {
     Absent,
     One(Range),
@@ -58,7 +61,7 @@ pub enum SackBlocks {
 }
 
 // What the options of a segment say.
-#[derive(Drop)]
+#[derive(Clone, Copy)]
 pub struct Options {
     pub mss: Mss,
     // As the peer wrote it: a shift above 14 too.
@@ -70,14 +73,14 @@ pub struct Options {
 }
 
 // Where the payload lies in the segment.
-#[derive(Drop)]
+#[derive(Clone, Copy)]
 pub struct Payload {
     pub start: usize,
     pub length: u32,
 }
 
 // A segment that can be read.
-#[derive(Drop)]
+#[derive(Clone, Copy)]
 pub struct Segment {
     // The ports.
     pub source: u16,
@@ -96,7 +99,7 @@ pub struct Segment {
 }
 
 // Why a segment is refused: E1 to E6, in this order. An option at fault has the place in the segment of its kind octet.
-#[derive(Drop)]
+#[derive(Clone, Copy)]
 pub enum Refusal {
     TooShort,
     TooLong,
@@ -125,7 +128,7 @@ impl Refusal {
 
 // What reading a segment answers, each with the number of steps that its options took: one for each NOP, for a kind 0 and for each other
 // option, up to and with the first at fault; 0 with E1 to E3.
-#[derive(Drop)]
+#[derive(Clone, Copy)]
 pub enum Reading {
     Segment(Segment, usize),
     Refused(Refusal, usize),

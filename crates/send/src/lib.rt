@@ -1,5 +1,8 @@
 // The send side of a connection, as far as arriving acknowledgments move it: which are new and which too old, the send window, the octets
 // noted as sent, and which of the peer's SACK blocks are listed.
+
+#![tactic(auto)]
+
 ghost use Rattle.std.specs.Prelude.{◌≡◌, max, min, ◌≤◌};
 ghost use Rattle.send.specs.Send.{acknowledged, exceeds_window, is_current, is_later, is_listed, is_new, is_too_old, is_unsent, number_of, opened, sent, shown, taken, updates_window, windowed};
 ghost use Rattle.send.specs.Sound.{Sound};
@@ -12,7 +15,7 @@ const MAX_SHIFT: u32 = 14;
 // The most that one sequence number can lie before another.
 const HALF_WAY: u32 = 0x8000_0000;
 
-#[derive(Drop)]
+#[derive(Clone, Copy)]
 pub struct Send {
     // SND.UNA and SND.NXT.
     pub una: Seq,
@@ -27,7 +30,7 @@ pub struct Send {
 }
 
 // RFC 9293's SEG.SEQ, SEG.ACK and SEG.WND: what a segment says to the send side.
-#[derive(Drop)]
+#[derive(Clone, Copy)]
 pub struct AckFields {
     pub seq: Seq,
     pub ack: Seq,
@@ -35,7 +38,7 @@ pub struct AckFields {
 }
 
 // What noting sent octets answers.
-#[derive(Drop)]
+#[derive(Clone, Copy)]
 pub enum SentOutcome {
     Noted,
     // E12.
@@ -43,7 +46,7 @@ pub enum SentOutcome {
 }
 
 // Where the octets are refused, the send side is the one that was passed.
-#[derive(Drop)]
+#[derive(Clone, Copy)]
 pub struct SentAnswer {
     pub outcome: SentOutcome,
     pub send: Send,

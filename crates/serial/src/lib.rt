@@ -1,5 +1,8 @@
 // Serial numbers: 32-bit numbers that wrap, as sequence numbers and timestamps do. The two kinds are types of their own, and
 // share their definitions and laws.
+
+#![tactic(auto)]
+
 ghost use Rattle.std.specs.Prelude.{◌≡◌};
 ghost use Rattle.serial.specs.Serial.{IsDistance, distance_of, is_at_or_before, is_before, moved_by, offset_of, round_trip, stamp_at};
 
@@ -7,15 +10,15 @@ ghost use Rattle.serial.specs.Serial.{IsDistance, distance_of, is_at_or_before, 
 const TOP_BIT: u32 = 0x8000_0000;
 
 // A sequence number.
-#[derive(Drop)]
+#[derive(Clone, Copy)]
 pub struct Seq(pub u32);
 
 // A timestamp.
-#[derive(Drop)]
+#[derive(Clone, Copy)]
 pub struct Stamp(pub u32);
 
 // The sequence numbers from `left` up to `right`, which is not among them: a range that is held, or a block of a SACK option.
-#[derive(Drop)]
+#[derive(Clone, Copy)]
 pub struct Range {
     pub left: Seq,
     pub right: Seq,

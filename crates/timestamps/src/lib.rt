@@ -1,4 +1,7 @@
 // The timestamps of a connection: whether they are in force, missing or old ones, what becomes TS.Recent, and the round-trip sample.
+
+#![tactic(auto)]
+
 ghost use Rattle.std.specs.Prelude.{cond, ◌≡◌};
 ghost use Rattle.timestamps.specs.Timestamps.{is_missing, is_old, is_present, is_recorded, opened, outdated, replaces_recent, sample_at, stamp_of, taken, value_before};
 
@@ -7,7 +10,7 @@ use serial::{Seq, Stamp};
 // 24 days, in ms.
 const LIFETIME: u64 = 2_073_600_000;
 
-#[derive(Drop)]
+#[derive(Clone, Copy)]
 pub struct Timestamping {
     // Whether they are in force.
     pub active: bool,
@@ -19,7 +22,7 @@ pub struct Timestamping {
 }
 
 // The TSval of a segment.
-#[derive(Drop)]
+#[derive(Clone, Copy)]
 pub enum Tsval {
     Absent,
     Value(Stamp),

@@ -1,4 +1,7 @@
 // Header and options of a TCP segment, written into a buffer.
+
+#![tactic(auto)]
+
 mod fixed_header;
 mod option_list;
 mod sizes;
@@ -13,14 +16,14 @@ use serial::Seq;
 const FIXED_HEADER: usize = 20;
 
 // The ports of a segment that is written.
-#[derive(Drop)]
+#[derive(Clone, Copy)]
 pub struct Ports {
     pub source: u16,
     pub destination: u16,
 }
 
 // The fields of a header that is written; its checksum and urgent field are 0.
-#[derive(Drop)]
+#[derive(Clone, Copy)]
 pub struct Header {
     pub ports: Ports,
     pub seq: Seq,
@@ -30,7 +33,7 @@ pub struct Header {
 }
 
 // How many octets were written, or E7.
-#[derive(Drop)]
+#[derive(Clone, Copy)]
 pub enum Writing {
     Octets(usize),
     BufferTooShort,
