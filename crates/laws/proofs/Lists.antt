@@ -21,6 +21,7 @@ module _ {A : Type 0} where
 
   -- what holds of each holds of one that stands there
   pub each_in : {P : A → Type 0} {l : List A} {x : A} → Each P l → Memᴰ x l → P x
+  each_in none there = elim there [ ]
   each_in {P} (more h e) (Memᴰ.head same) = subst P (sym same) h
   each_in (more h e) (Memᴰ.tail there) = each_in e there
 
