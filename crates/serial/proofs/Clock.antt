@@ -1,6 +1,6 @@
 -- Our timestamps go with the caller's clock, however high it stands, and what comes back of one is the time since then. Assumes nothing.
 use Rattle.std.proofs.Common.{◌≡◌, ℕ, ◌+◌, ◌^◌, ◌<◌, sym, arith}
-use Rattle.serial.specs.Serial.{moved_by, offset_of, round_trip, stamp_at}
+use Rattle.serial.specs.Serial.{moved_by, round_trip, stamp_at}
 use Rattle.serial.proofs.Offset.{offset_only}
 
 -- at clock 0 it is the connection's offset, and n ms later it is n further, modulo 2^32
