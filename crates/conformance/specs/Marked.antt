@@ -1,7 +1,7 @@
 -- Document 01's "Marked cases M1 to M12" as one table: `worked` is what the definitions give for each case, `paper` what document 01 gives, of
 -- M11 and M12 with document 02's margin, and `marked` says that the two are equal. Every record in it is one that an opening gave, or an opening and the segments after it.
 use Rattle.std.specs.Prelude.{ℕ, ◌+◌, ◌-◌, ◌^◌, Bool, true, false, List, [], ◌∷◌, ◌++◌, ◌≡◌, refl, ltb, ℤ, pos, neg_ℤ, drop, replicate, take}
-use Rattle.std.proofs.Math.Option.{Option·elim}
+use Rattle.std.proofs.Math.Option.{Option-elim}
 use Rattle.std.proofs.Common.{ap, ◌∙◌}
 use Rattle.serial.specs.Serial.{distance_of, offset_of, range}
 use Rattle.serial.specs.declared.Range.{Range}
@@ -125,7 +125,7 @@ paper M12 = number 256032 ∷ number 96064 ∷ number 2505 ∷ []
 -- M10 is computed segment by segment, since nothing is shared within one computation: this is the record after the segment at WL1, which
 -- holds ranges of 500 numbers from these on. Whoever unfolds it unfolds all that the cases are computed with.
 after : List ℕ → ℕ → Connection
-unfolding send_fields scaling segment at own opened permitted option_octets distance_of offset_of big_endian number_at Option·elim
+unfolding send_fields scaling segment at own opened permitted option_octets distance_of offset_of big_endian number_at Option-elim
     is_broken padding padding_rule options.fault_at options.fault_in options.is_repeated options.is_wrong_length options.lengths_of
     options.one_to_four options.option_in options.options_of options.stands_in options_read reading segment_of exceed_limits in_force shifts_in_force
     held_of is_out_of_order joined left_of meets no_room range_of ranges_after ranges_of right_of taking.advanced taking.holding taking.taken

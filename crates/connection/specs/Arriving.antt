@@ -1,6 +1,6 @@
 -- An arriving segment: E1 to E6, E8, the verdict, and what a take does. Only take changes the record (house).
 use Rattle.std.specs.Prelude.{Bool, true, false, cond, List, [], ℕ, ltb}
-use Rattle.std.proofs.Math.Option.{Option, none, some, Option·elim}
+use Rattle.std.proofs.Math.Option.{Option, none, some, Option-elim}
 use Rattle.serial.specs.declared.Range.{Range}
 use Rattle.receive.specs.Window.{fin_inside, new_part}
 use Rattle.receive.specs.declared.Part.{Part}
@@ -76,7 +76,7 @@ arriving_read k clock s = cond (ltb clock k.timestamping.since) (refusing k 8 no
 -- E1 to E6, then E8, then the table
 unfoldable pub arriving : Connection → ℕ → List ℕ → Arrival
 arriving k clock octets =
-    Option·elim (reading octets).fields (refusing k (reading octets).number (reading octets).place) (arriving_read k clock)
+    Option-elim (reading octets).fields (refusing k (reading octets).number (reading octets).place) (arriving_read k clock)
 
 abbrev pub shown : declared.Arrival → Arrival
 shown a = record {

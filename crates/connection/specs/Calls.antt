@@ -1,6 +1,6 @@
 -- Any list of calls on a record that is freshly opened, and the calls that these make on its timer.
 use Rattle.std.specs.Prelude.{cond, List, [], ◌∷◌, ◌++◌, ◌≡◌, ℕ}
-use Rattle.std.proofs.Math.Option.{Option, some, Option·elim}
+use Rattle.std.proofs.Math.Option.{Option, some, Option-elim}
 use Rattle.rto.specs.Calls as rto
 use Rattle.segment.specs.Reading.{reading}
 use Rattle.segment.specs.declared.Segment.{Segment}
@@ -77,7 +77,7 @@ records_after k (c ∷ cs) = called k c ∷ records_after (called k c) cs
 
 -- what an arrival feeds to the timer: the sample of a segment that is taken
 abbrev pub fed : Connection → ℕ → Incoming → List rto.Call
-fed k clock s = cond (is_take (arrived k clock s).decision.action) (Option·elim (fields_of s) [] (fed_by k clock)) []
+fed k clock s = cond (is_take (arrived k clock s).decision.action) (Option-elim (fields_of s) [] (fed_by k clock)) []
 
 abbrev pub timer_call : Connection → Call → List rto.Call
 timer_call k (arrival clock s) = fed k clock s

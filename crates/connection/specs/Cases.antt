@@ -2,7 +2,7 @@
 -- windows of a short run, and a sample with its N of a record that either way opens, computed from the definitions under one statement, of
 -- records that an opening gave, or an opening and the segments after it. Flags are 2 for SYN, 4 for RST, 16 for ACK.
 use Rattle.std.specs.Prelude.{ℕ, ◌+◌, ◌*◌, ◌/◌, true, false, List, [], ◌∷◌, ◌++◌, map, ◌≡◌, refl, length, replicate}
-use Rattle.std.proofs.Math.Option.{Option·elim}
+use Rattle.std.proofs.Math.Option.{Option-elim}
 use Rattle.serial.specs.Serial.{distance_of, offset_of, range}
 use Rattle.octets.specs.Octets.{big_endian, number_at}
 use Rattle.field_station.specs.Demands.{first_lack}
@@ -168,7 +168,7 @@ unfolding arrivals numbers distance_of offset_of big_endian number_at exceed_lim
     send.updates_window send.windowed send.taken send.exceeds_window send.sent is_not_syn is_wrong_ack opening opening_from record_from record_with
     timestamps.opened timestamps.is_old timestamps.is_missing timestamps.outdated timestamps.value_before timestamps.is_recorded
     timestamps.replaces_recent timestamps.taken rows fed_by record_after sample_of arriving arriving_read judged settled taken_by sent
-    window_opened first_lack under_profile profile_opening Option·elim
+    window_opened first_lack under_profile profile_opening Option-elim
 cases = (refl, refl, refl, refl, refl, refl, refl, refl)
 
 pub base_opened : Opened base

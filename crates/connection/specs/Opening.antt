@@ -1,6 +1,6 @@
 -- Opening a record (document 01, "Opening", and E9, E10, E11).
 use Rattle.std.specs.Prelude.{Bool, cond, not, ◌&&◌, ◌||◌, List, ℕ, eqb}
-use Rattle.std.proofs.Math.Option.{Option, none, some, Option·elim}
+use Rattle.std.proofs.Math.Option.{Option, none, some, Option-elim}
 use Rattle.serial.specs.Serial.{moved_by}
 use Rattle.offers.specs.Offers.{exceed_limits, in_force}
 use Rattle.offers.specs.declared.InForce.{InForce}
@@ -94,7 +94,7 @@ opening_read own clock syn = cond (exceeds_limits own) (refused_opening 9 none) 
 unfoldable pub opening : Setup → ℕ → List ℕ → OpeningAnswer
 opening own clock octets =
     cond (exceeds_limits own) (refused_opening 9 none)
-    (Option·elim (reading octets).fields (refused_opening (reading octets).number (reading octets).place) (opening_from own clock))
+    (Option-elim (reading octets).fields (refused_opening (reading octets).number (reading octets).place) (opening_from own clock))
 
 abbrev pub shown_open : OpenAnswer → OpeningAnswer
 shown_open a = record {

@@ -1,6 +1,6 @@
 -- Opening under the field-station profile (document 02, P13, whose term it is): E17 after E11.
 use Rattle.std.specs.Prelude.{cond, List, ℕ, eqb}
-use Rattle.std.proofs.Math.Option.{Option, none, some, Option·elim}
+use Rattle.std.proofs.Math.Option.{Option, none, some, Option-elim}
 use Rattle.field_station.specs.Demands.{first_lack}
 use Rattle.offers.specs.declared.Offers.{Offers}
 use Rattle.segment.specs.Reading.{reading}
@@ -28,7 +28,7 @@ lacking value = record { opening = refused_opening 17 none; lack = some value }
 
 -- what the base answers stays, unless it opens and one of the three is not met
 unfoldable pub under_profile : Offers → OpeningAnswer → Segment → Profiled
-under_profile own a syn = cond (eqb a.number 0) (Option·elim (lack_in own syn) (as_opened a) lacking) (as_opened a)
+under_profile own a syn = cond (eqb a.number 0) (Option-elim (lack_in own syn) (as_opened a) lacking) (as_opened a)
 
 -- E9, E10, E11, E17, of a segment that has been read
 unfoldable pub profile_opening_read : Setup → ℕ → Segment → Profiled
@@ -37,7 +37,7 @@ profile_opening_read own clock syn = under_profile own.offers (opening_read own 
 -- E9, reading, E10, E11, E17
 unfoldable pub profile_opening : Setup → ℕ → List ℕ → Profiled
 profile_opening own clock octets =
-    Option·elim (reading octets).fields (as_opened (opening own clock octets)) (under_profile own.offers (opening own clock octets))
+    Option-elim (reading octets).fields (as_opened (opening own clock octets)) (under_profile own.offers (opening own clock octets))
 
 abbrev pub shown_profile : ProfileAnswer → Profiled
 shown_profile a = record {

@@ -1,5 +1,5 @@
 // Opening under the field-station profile (document 02's term): E17.
-ghost use Rattle.std.proofs.Math.Option.{Option·elim};
+ghost use Rattle.std.proofs.Math.Option.{Option-elim};
 ghost use Rattle.std.specs.Prelude.{◌≡◌};
 ghost use Rattle.field_station.specs.Demands.{lack_value};
 ghost use Rattle.connection.specs.Opening.{shown_open};
@@ -37,7 +37,7 @@ fn lacking(lack: Lack) -> ProfileAnswer
 
 // What was opened, judged by both sides' offers as they were written and by the MSS that the record keeps.
 fn by_demands(own: Offers, answer: OpenAnswer, syn: Segment) -> ProfileAnswer
-    ensures { shown_profile result ≡ Option·elim (lack_in own syn) (as_opened (shown_open answer)) lacking }
+    ensures { shown_profile result ≡ Option-elim (lack_in own syn) (as_opened (shown_open answer)) lacking }
 {
     let options = syn.options;
     let mss_option = options.mss;

@@ -1,7 +1,7 @@
 -- Reading a segment (document 01, "Reading a segment" and "Numbers given when work is declined"), and the number of steps that reading its
 -- options reports (document 02, P8).
 use Rattle.std.specs.Prelude.{ℕ, ◌+◌, ◌-◌, ◌*◌, ◌/◌, ◌%◌, ◌^◌, Bool, cond, ◌||◌, List, [], ◌∷◌, eqb, leb, ltb, drop, get_or, length, take}
-use Rattle.std.proofs.Math.Option.{Option, none, some, Option·elim, map}
+use Rattle.std.proofs.Math.Option.{Option, none, some, Option-elim, map}
 use Rattle.laws.specs.Lists.{filter}
 use Rattle.octets.specs.Octets.{number_at}
 use Rattle.segment.specs.Grammar.{Step, padding_rule}
@@ -63,7 +63,7 @@ shown (Reading.Refused why steps) = record { answer = record { number = number_o
 
 -- the options of the steps, or the first fault
 unfoldable pub options_read : List Step → Answer Options
-options_read steps = Option·elim (fault_in [] steps) (read_as (options_of steps)) refused_at
+options_read steps = Option-elim (fault_in [] steps) (read_as (options_of steps)) refused_at
 
 -- the high half of octet 12, in 4-octet units
 abbrev pub data_offset : List ℕ → ℕ
