@@ -8,7 +8,7 @@ use native.Mathlib.Nat.{mul-add, pow-succ'}
 use native.Mathlib.Omega.{arith}
 use lib.ListN.{length}
 use Rattle.rto.specs.Calls.{Call, sample, expiry}
-use Rattle.rto.specs.Fractions.{Fraction, Is, between, divided, sum, times, whole}
+use Rattle.rto.specs.Fractions.{Fraction, Is, between, divided, sum, times}
 use Rattle.rto.specs.Exact.{AfterSamples, Exact, SetOver, WholeOver, unset, set, accepted, exact_called, exact_rttvar, exact_run, exact_sampled, exact_srtt, exact_value, expected_of, product, within_limits}
 use Rattle.rto.proofs.Fractions.{combined_is, divided_is, times_is, whole_is, widened}
 use Rattle.rto.proofs.Refusal.{accepted_exactly, tests_agree}
