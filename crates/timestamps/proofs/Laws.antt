@@ -1,5 +1,5 @@
 -- What document 01 says of timestamps, apart from the definitions. Assumes nothing.
-use mathlib.Core.Bool.{Bool, true, false, and-false, not, or-true, ◌&&◌, ◌||◌}
+use mathlib.Core.Bool.{Bool, true, false, and-false, not, or-true}
 use mathlib.Core.Logic.{◌↔◌, ◌⊎◌, inl, inr}
 use mathlib.Core.Path.{◌≡◌, refl, ap, ◌∙◌}
 use Prim.Native.Nat.{ℕ, ◌+◌, ◌-◌, ◌%◌, ◌^◌, ◌<◌}
