@@ -103,7 +103,7 @@ module _ (kinds : List ℕ) where
 
   sought : (steps : List Step) → Sought steps
   unfolding Sought option_in
-  sought [] = inl ((λ at octets m. absurd (Memᴰ.not_nil m)), refl)
+  sought [] = inl ((λ at octets m. absurd (Memᴰ.not-nil m)), refl)
   sought (nop a ∷ later) = passes_over (nop a) later (no_option (nop a) refl) refl (sought later)
   sought (end a ∷ later) = passes_over (end a) later (no_option (end a) refl) refl (sought later)
   sought (broken a ∷ later) = passes_over (broken a) later (no_option (broken a) refl) refl (sought later)
@@ -117,7 +117,7 @@ module _ (kinds : List ℕ) where
           before = [];
           after = later;
           stands = refl;
-          none_before = λ at octets m. absurd (Memᴰ.not_nil m);
+          none_before = λ at octets m. absurd (Memᴰ.not-nil m);
           listed = stands_only (get_or x 0 0) kinds e;
         },
       )

@@ -13,7 +13,7 @@ use Rattle.segment.specs.Options.{stands_in}
 
 pub stands_if : (n : ℕ) (l : List ℕ) → Memᴰ n l → stands_in n l ≡ true
 unfolding stands_in
-stands_if n [] m = absurd (Memᴰ.not_nil m)
+stands_if n [] m = absurd (Memᴰ.not-nil m)
 stands_if n (x ∷ xs) m = go (Memᴰ.cases_cons m) (eqb n x) refl (stands_if n xs)
   where
     go : (n ≡ x) ⊎ Memᴰ n xs → (t : Bool) → eqb n x ≡ t → (Memᴰ n xs → stands_in n xs ≡ true) → (t || stands_in n xs) ≡ true
@@ -74,7 +74,7 @@ pub below_out : (least n : ℕ) (l : List ℕ) → n < least → filter (leb lea
 below_out least n l h = simp (lt-leb least n h)
 
 pub of_each : {A : Type 0} {P : A → Type 0} {l : List A} {n : A} → Each P l → Memᴰ n l → P n
-of_each none m = absurd (Memᴰ.not_nil m)
+of_each none m = absurd (Memᴰ.not-nil m)
 of_each {A} {P} {l} {n} (more {x} {xs} h e) m = go (Memᴰ.cases_cons m) (λ later. of_each e later)
   where
     go : (n ≡ x) ⊎ Memᴰ n xs → (Memᴰ n xs → P n) → P n

@@ -148,7 +148,7 @@ module _ {P : Step → Type 0} where
 
 pub earlier_before : (x : Step) (before : List Step) (step : Step) (after : List Step) → EachTwo Before (before ++ (step ∷ after)) → Memᴰ x before
     → Before x step
-earlier_before x [] step after e m = absurd (Memᴰ.not_nil m)
+earlier_before x [] step after e m = absurd (Memᴰ.not-nil m)
 earlier_before x (y ∷ before) step after (more_two h e) m = go (Memᴰ.cases_cons m) (earlier_before x before step after e)
   where
     go : (x ≡ y) ⊎ Memᴰ x before → (Memᴰ x before → Before x step) → Before x step
