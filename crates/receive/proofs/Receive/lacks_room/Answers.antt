@@ -1,6 +1,5 @@
 -- The ways out are the tests of verdict 30; the count of the ranges is never above eight. Assumes nothing.
 use Rattle.std.proofs.Common.{◌≡◌, true, eqb, length, sym, ◌∙◌, arith, eq-eqb, ne_eqb, ◌≤◌}
-use borrow.Author.Tests.{not-false, not-true}
 use Rattle.receive.specs.declared.Held.{Held}
 use Rattle.receive.specs.Ranges.{no_room, ranges_of}
 use Rattle.receive.specs.Sound.{Canonical}
@@ -23,7 +22,7 @@ returns-then-not-is_out_of_order c =
     rw (
       eight c.args.self.held c.requires.canonical c.if-self-lt8.false,
       ← c.new_part-part.ensures,
-      sym c.is_out_of_order.ensures ∙ not-true _ c.if-not-is_out_of_order.true,
+      sym c.is_out_of_order.ensures ∙ c.if-not-is_out_of_order.true,
     )
 
 pub returns : goal.returns
@@ -32,6 +31,6 @@ returns c =
     rw (
       eight c.args.self.held c.requires.canonical c.if-self-lt8.false,
       ← c.new_part-part.ensures,
-      sym c.is_out_of_order.ensures ∙ not-false _ c.if-not-is_out_of_order.false,
+      sym c.is_out_of_order.ensures ∙ c.if-not-is_out_of_order.false,
       c.meets_any.ensures,
     )

@@ -10,7 +10,7 @@ pub returns-then-is_met : goal.returns-then-is_met
 unfolding left_of right_of
 returns-then-is_met c l few is =
     let a = c.args in
-    rw (c.least-from.ensures, c.offset.ensures, c.greatest-to.ensures, c.offset-2.ensures)
+    rw (c.least-from.ensures, c.offset.ensures, c.greatest-to.ensures, c.offset-then-is_met.ensures)
     (one_met a.nxt.0 a.p l a.later is a.range (sym c.is_met.ensures ∙ c.if-is_met.true))
 
 pub returns-else-is_met : goal.returns-else-is_met

@@ -1,5 +1,6 @@
 -- The two tests are those of `meets`, on the offsets that the two calls give. Assumes nothing.
-use Rattle.std.proofs.Common.{arith, le-leb, lt-leb}
+use Rattle.std.proofs.Common.{arith, le-leb}
+use borrow.Author.Tests.{lt-leb}
 use Rattle.receive.specs.Ranges.{left_of, meets, right_of}
 use Rattle.receive.proofs.ranges.is_met.Goals as goal
 
