@@ -67,28 +67,6 @@ module _ (s : Send) (ack low : ℕ) (leads : moved_by low s.largest ≡ s.una.0 
       pick (yes less) = omega (arith, before, fits, nxt_from_low, offset_around low s.nxt.0 ack less)
       pick (no most) = omega (arith, before, within, offset_between low s.nxt.0 ack (omega arith))
 
-  not_too_old : InAckRange → ¬ TooOld s ack
-  not_too_old within old = pick (dec_lt (offset_of low s.una.0) (offset_of low ack))
-    where
-      pick : Dec (offset_of low s.una.0 < offset_of low ack) → ⊥
-      pick (yes past) = omega (arith, old, within, fits, una_from_low, nxt_from_low, offset_around low ack s.una.0 past)
-      pick (no most) = omega (arith, old, una_from_low, offset_between low ack s.una.0 (omega arith))
-
-  -- one that is outside is past NXT or too old
-  too_old_if : offset_of low s.nxt.0 < offset_of low ack → ¬ Before s.nxt.0 ack → TooOld s ack
-  too_old_if past sent = pick (dec_lt (offset_of s.nxt.0 ack) (2 ^ 31))
-    where
-      from_nxt : offset_of s.nxt.0 ack ≡ offset_of low ack - offset_of low s.nxt.0
-      from_nxt = offset_between low s.nxt.0 ack (omega arith)
-
-      pick : Dec (offset_of s.nxt.0 ack < 2 ^ 31) → TooOld s ack
-      pick (yes less) = absurd (sent (omega (arith, from_nxt), less))
-      pick (no most) =
-          let around = offset_around low ack s.una.0 (omega (arith, una_from_low, nxt_from_low)) in (
-            omega (arith, around, una_from_low, offset_below low ack),
-            omega (arith, around, una_from_low, nxt_from_low, from_nxt),
-          )
-
   pub range_exactly : ((is_unsent s ack ≡ false) × (is_too_old s ack ≡ false)) ↔ InAckRange
   range_exactly =
       let unsent = fails_exactly (is_unsent s ack) (unsent_exactly s ack) in
@@ -97,6 +75,28 @@ module _ (s : Send) (ack low : ℕ) (leads : moved_by low s.largest ≡ s.una.0 
         λ within. (unsent.1 (not_unsent within), old.1 (not_too_old within)),
       )
     where
+      not_too_old : InAckRange → ¬ TooOld s ack
+      not_too_old within old = pick (dec_lt (offset_of low s.una.0) (offset_of low ack))
+        where
+          pick : Dec (offset_of low s.una.0 < offset_of low ack) → ⊥
+          pick (yes past) = omega (arith, old, within, fits, una_from_low, nxt_from_low, offset_around low ack s.una.0 past)
+          pick (no most) = omega (arith, old, una_from_low, offset_between low ack s.una.0 (omega arith))
+
+      -- one that is outside is past NXT or too old
+      too_old_if : offset_of low s.nxt.0 < offset_of low ack → ¬ Before s.nxt.0 ack → TooOld s ack
+      too_old_if past sent = pick (dec_lt (offset_of s.nxt.0 ack) (2 ^ 31))
+        where
+          from_nxt : offset_of s.nxt.0 ack ≡ offset_of low ack - offset_of low s.nxt.0
+          from_nxt = offset_between low s.nxt.0 ack (omega arith)
+
+          pick : Dec (offset_of s.nxt.0 ack < 2 ^ 31) → TooOld s ack
+          pick (yes less) = absurd (sent (omega (arith, from_nxt), less))
+          pick (no most) =
+              let around = offset_around low ack s.una.0 (omega (arith, una_from_low, nxt_from_low)) in (
+                omega (arith, around, una_from_low, offset_below low ack),
+                omega (arith, around, una_from_low, nxt_from_low, from_nxt),
+              )
+
       pick : Dec (offset_of low s.nxt.0 < offset_of low ack) → ¬ Before s.nxt.0 ack → ¬ TooOld s ack → InAckRange
       pick (yes past) sent young = absurd (young (too_old_if past sent))
       pick (no most) sent young = omega arith
