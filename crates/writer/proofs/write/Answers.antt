@@ -1,5 +1,5 @@
 -- `write` meets its contract. Assumes nothing.
-use mathlib.Core.Path.{◌≡◌, sym, ◌∙◌}
+use mathlib.Core.Path.{sym, ◌∙◌}
 use native.Mathlib.Omega.{arith}
 use Rattle.writer.proofs.Answers.{refuses_if, writes_if}
 use Rattle.writer.proofs.Storing.{blocks_fit, size_is, whole_stored, written_most}
