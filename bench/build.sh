@@ -27,17 +27,10 @@ is_fresh() {
     [ -e "$1" ] && [ -z "$(find "$root/crates" "$root/crates.txt" -name out -prune -o -newer "$1" -print -quit)" ]
 }
 
-# build_program NAME: rt builds a program to run it, here on no input.
-build_program() {
-    quietly in_crate "$1" rt run </dev/null
-    keep_built "$1" "$1" "bin/$1"
-}
-
 build_programs() {
     if ! is_fresh "$root/target/bin/bench" || ! is_fresh "$root/target/bin/replay"; then
         echo "building the programs bench and replay; their crates are proved first, which takes some minutes" >&2
-        build_program bench
-        build_program replay
+        quietly bash "$root/scripts/build" bench replay
     fi
 }
 

@@ -9,24 +9,14 @@ source "$root/scripts/common.sh"
 example_sources=("$gateway"/{example,flows,report}.c "$gateway"/capture/{capture,octets,packet,ipv4,ipv6}.c)
 warnings=(-std=c99 -Wall -Wextra -Wpedantic -Wconversion -Wshadow -Werror)
 
-# in_crate NAME COMMAND..
-in_crate() {
-    cd "$root/crates/$1" && "${@:2}"
-}
-
-# keep_built CRATE FILE TO: what rt has built in the crate's out/, below target/.
-keep_built() {
-    mkdir -p "$root/target/$(dirname "$3")"
-    cp "$root/crates/$1/out/$2" "$root/target/$3"
-}
-
 build_library() {
     need_toolchain
     if [ ! -e "$library" ]; then
         echo "building the library; its crates are proved first, which takes about a minute" >&2
     fi
-    quietly in_crate gateway_c rt lib
-    keep_built gateway_c libgateway_c.a staticlib/libgateway.a
+    quietly in_folder "$root/crates/gateway_c" rt lib
+    mkdir -p "$(dirname "$library")"
+    cp "$root/crates/gateway_c/out/libgateway_c.a" "$library"
 }
 
 # compile PROGRAM WORDS..: the words are options and sources.
