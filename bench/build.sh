@@ -22,15 +22,15 @@ install_missing() {
     need_package golang-go "$gvisor_package" "$gopacket_package" "$scapy_package" dpkg-dev
 }
 
-# is_fresh PROGRAM: built after the last change of a crate.
+# is_fresh PROGRAM: built after the last change of a crate, but for what rt writes.
 is_fresh() {
-    [ -e "$1" ] && [ -z "$(find "$root/crates" "$root/crates.txt" -newer "$1" -print -quit)" ]
+    [ -e "$1" ] && [ -z "$(find "$root/crates" "$root/crates.txt" -name out -prune -o -newer "$1" -print -quit)" ]
 }
 
 build_programs() {
     if ! is_fresh "$root/target/bin/bench" || ! is_fresh "$root/target/bin/replay"; then
         echo "building the programs bench and replay; their crates are proved first, which takes some minutes" >&2
-        quietly in_root rt check bench replay
+        quietly bash "$root/scripts/build" bench replay
     fi
 }
 

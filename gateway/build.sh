@@ -9,16 +9,14 @@ source "$root/scripts/common.sh"
 example_sources=("$gateway"/{example,flows,report}.c "$gateway"/capture/{capture,octets,packet,ipv4,ipv6}.c)
 warnings=(-std=c99 -Wall -Wextra -Wpedantic -Wconversion -Wshadow -Werror)
 
-in_root() {
-    cd "$root" && "$@"
-}
-
 build_library() {
     need_toolchain
     if [ ! -e "$library" ]; then
         echo "building the library; its crates are proved first, which takes about a minute" >&2
     fi
-    quietly in_root rt staticlib gateway
+    quietly in_folder "$root/crates/gateway_c" rt lib
+    mkdir -p "$(dirname "$library")"
+    cp "$root/crates/gateway_c/out/libgateway_c.a" "$library"
 }
 
 # compile PROGRAM WORDS..: the words are options and sources.

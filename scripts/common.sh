@@ -49,6 +49,11 @@ need_toolchain() {
     fi
 }
 
+# in_folder FOLDER COMMAND..
+in_folder() {
+    cd "$1" && "${@:2}"
+}
+
 # quietly COMMAND..: what the command prints is shown, on standard error, only where it fails; that ends the script.
 quietly() {
     local printed

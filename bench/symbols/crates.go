@@ -12,7 +12,8 @@ import (
 // What the names of the functions for C start with, which no crate's name stands before.
 const entryPrefix = "noppalerk_"
 
-// prefixesOf reads the list of crates, which has a line for each: its name, a colon and what it stands on.
+// prefixesOf reads the list of crates, which has a line for each: its name, what kind of library it is if not the usual one, a colon and what
+// it stands on.
 func prefixesOf(list string) []string {
 	octets, err := os.ReadFile(list)
 	if err != nil {
@@ -20,8 +21,8 @@ func prefixesOf(list string) []string {
 	}
 	prefixes := []string{entryPrefix}
 	for _, line := range strings.Split(string(octets), "\n") {
-		if name, _, isCrate := strings.Cut(line, ":"); isCrate && !strings.HasPrefix(line, "#") {
-			prefixes = append(prefixes, name+"::")
+		if crate, _, isCrate := strings.Cut(line, ":"); isCrate && !strings.HasPrefix(line, "#") {
+			prefixes = append(prefixes, strings.Fields(crate)[0]+"::")
 		}
 	}
 	return prefixes

@@ -13,48 +13,52 @@ ghost use Rattle.std.specs.Prelude.{◌≤◌, length};
 ghost use Rattle.connection.specs.Record.{Sound};
 
 use connection::Connection;
-use libc::{STDIN_FILENO, STDOUT_FILENO};
+use std::io;
+use std::io::Read;
 use stream::Extent;
 
-fn main() {
+fn main(rt: HostRuntime) -> io::Result<()> {
+    let mut input = rt.stdin();
     let mut octets = stream::space();
-    run(&mut octets);
+    run(&rt, &mut input, &mut octets)
 }
 
 // Loads a stream, prepares its record, then answers the orders.
-fn run(octets: &mut [u8]) {
-    let extent = stream::load(octets);
+fn run(rt: &impl Print, input: &mut impl Read, octets: &mut [u8]) -> io::Result<()> {
+    let extent = stream::load(input, octets)?;
     let prepared = preparing::prepare(octets, extent.prepared);
     if extent.bad || prepared.bad {
-        io::write_all(STDOUT_FILENO, b"bad\n");
-        return;
+        return println!(rt; "bad");
     }
     let connection = prepared.connection;
-    answer_orders(connection, octets, extent);
+    answer_orders(rt, input, connection, octets, extent)
 }
 
 // A proved loop has to end, so it counts down from a number that no input uses up.
-fn answer_orders(connection: Connection, octets: &mut [u8], extent: Extent)
+fn answer_orders(
+    rt: &impl Print,
+    input: &mut impl Read,
+    connection: Connection,
+    octets: &mut [u8],
+    extent: Extent,
+) -> io::Result<()>
     requires sound { Sound connection }
     requires end_in_bounds { extent.end ≤ length octets.old }
 {
     let mut orders = u64::MAX;
     while 0 < orders {
         let mut order = [0u8; 4];
-        if io::read_full(STDIN_FILENO, &mut order) < 4 {
-            return;
+        if stream::read_full(input, &mut order)? < 4 {
+            return Ok(());
         }
         let count = octets::read_u32(&order, 0);
-        if !write_line(rounds::sum_of(connection, octets, extent, count)) {
-            return;
-        }
+        write_line(rt, rounds::sum_of(connection, octets, extent, count))?;
         orders -= 1;
     }
+    Ok(())
 }
 
-fn write_line(sum: u64) -> bool {
-    if io::print_decimal(STDOUT_FILENO, sum) {
-        return io::write_all(STDOUT_FILENO, b"\n");
-    }
-    false
+// Whoever gave the order waits for its line, which is written at once.
+fn write_line(rt: &impl Print, sum: u64) -> io::Result<()> {
+    println!(rt; "{sum}")
 }

@@ -1,7 +1,8 @@
 // A recorded stream of calls: how many octets the prepared and the measured ones have, then the calls, one after the other.
-ghost use Rattle.std.specs.Prelude.{◌≡◌, ◌+◌, ◌<◌, ◌≤◌, length};
+ghost use Rattle.std.specs.Prelude.{◌≡◌, ◌+◌, ◌<◌, ◌≤◌, length, IfOk};
 
-use libc::STDIN_FILENO;
+use std::io;
+use std::io::Read;
 
 // Where the prepared calls end, which start at 0, and where the measured ones do, which follow them.
 #[derive(Clone, Copy)]
@@ -20,27 +21,40 @@ pub fn space() -> [u8; 262144]
 }
 
 // Reads a stream, and puts its calls at the start of `octets`.
-pub fn load(octets: &mut [u8]) -> Extent
-    ensures { (result.prepared ≤ result.end) × (result.end ≤ length octets.new) }
+pub fn load(input: &mut impl Read, octets: &mut [u8]) -> io::Result<Extent>
+    ensures { IfOk result (λ e. (e.prepared ≤ e.end) × (e.end ≤ length octets.new)) }
 {
     let mut head = [0u8; 8];
-    let got = io::read_full(STDIN_FILENO, &mut head);
+    let got = read_full(input, &mut head)?;
     let prepared = octets::read_u32(&head, 0) as usize;
     let end = prepared + octets::read_u32(&head, 4) as usize;
     if got < 8 {
-        return no_stream();
+        return Ok(no_stream());
     }
     if octets.len() < end {
-        return no_stream();
+        return Ok(no_stream());
     }
-    if io::read_full(STDIN_FILENO, &mut octets[0..end]) < end {
-        return no_stream();
+    if read_full(input, &mut octets[0..end])? < end {
+        return Ok(no_stream());
     }
-    Extent {
+    Ok(Extent {
         prepared,
         end,
         bad: false,
+    })
+}
+
+// Reads until the octets are full or the input ends, and answers how many it read.
+pub fn read_full(input: &mut impl Read, octets: &mut [u8]) -> io::Result<usize> {
+    let mut done = 0;
+    while done < octets.len() {
+        let got = input.read(&mut octets[done..])?;
+        if got == 0 {
+            break;
+        }
+        done += got;
     }
+    Ok(done)
 }
 
 fn no_stream() -> Extent

@@ -1,4 +1,4 @@
-// What a gateway written in C calls; `gateway/noppalerk.h` has the same three functions for C.
+// What a gateway calls; the crate `gateway_c` has the same three functions for C.
 
 #![tactic(auto)]
 
@@ -10,24 +10,21 @@ ghost use Rattle.serial.specs.Serial.{distance_of};
 use serial::Seq;
 
 // The number of a segment's refusal, 0 where it can be read.
-#[unsafe(no_mangle)]
-pub extern "C" fn noppalerk_refusal(segment: &[u8]) -> u32
+pub fn noppalerk_refusal(segment: &[u8]) -> u32
     ensures { result ≡ (reading segment.now).number }
 {
     segment::read(segment).number() as u32
 }
 
 // The distance from one serial number to another; in C both kinds are plain numbers.
-#[unsafe(no_mangle)]
-pub extern "C" fn noppalerk_distance(from: u32, to: u32) -> i32
+pub fn noppalerk_distance(from: u32, to: u32) -> i32
     ensures { result ≡ distance_of from to }
 {
     Seq(from).distance(Seq(to))
 }
 
 // The milliseconds of a timer with this S and V, 0 where one of them is above 153,600,000.
-#[unsafe(no_mangle)]
-pub extern "C" fn noppalerk_milliseconds(srtt: u64, rttvar: u64) -> u32
+pub fn noppalerk_milliseconds(srtt: u64, rttvar: u64) -> u32
     ensures { result ≡ milliseconds_of srtt rttvar }
 {
     rto::milliseconds(srtt, rttvar)

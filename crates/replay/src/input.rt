@@ -1,6 +1,7 @@
 // A call read from standard input: the octet that names it, the length of its body, and the body.
 use crate::body;
-use libc::STDIN_FILENO;
+use std::io;
+use std::io::Read;
 
 // The most octets of a body.
 const MAX_BODY: usize = 65_664;
@@ -16,33 +17,51 @@ pub enum Input {
 }
 
 // Reads the next call, and puts its body at the start of `body`.
-pub fn next(body: &mut [u8]) -> Input {
+pub fn next(script: &mut impl Read, body: &mut [u8]) -> io::Result<Input> {
     let mut head = [0u8; 5];
-    let got = io::read_full(STDIN_FILENO, &mut head);
+    let got = read_full(script, &mut head)?;
     if got == 0 {
-        return Input::End;
+        return Ok(Input::End);
     }
     if got < 5 {
-        return Input::Bad;
+        return Ok(Input::Bad);
     }
     let call = octets::read_u8(&head, 0);
     let length = octets::read_u32(&head, 1) as usize;
     if MAX_BODY < length {
-        return Input::Bad;
+        return Ok(Input::Bad);
     }
-    read_body(call, length, body)
+    read_body(script, call, length, body)
 }
 
-fn read_body(call: u8, length: usize, body: &mut [u8]) -> Input {
+fn read_body(
+    script: &mut impl Read,
+    call: u8,
+    length: usize,
+    body: &mut [u8],
+) -> io::Result<Input> {
     let part = body::first_mut(body, length);
-    let got = io::read_full(STDIN_FILENO, part);
+    let got = read_full(script, part)?;
     if got < length {
-        return Input::Bad;
+        return Ok(Input::Bad);
     }
     if length < least_length(call, body) {
-        return Input::Bad;
+        return Ok(Input::Bad);
     }
-    Input::Call(call, length)
+    Ok(Input::Call(call, length))
+}
+
+// Reads until the octets are full or the script ends, and answers how many it read.
+fn read_full(script: &mut impl Read, octets: &mut [u8]) -> io::Result<usize> {
+    let mut done = 0;
+    while done < octets.len() {
+        let got = script.read(&mut octets[done..])?;
+        if got == 0 {
+            break;
+        }
+        done += got;
+    }
+    Ok(done)
 }
 
 // The octets that the fixed fields of a call take; more than any body has where there is no such call.

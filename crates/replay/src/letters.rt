@@ -1,12 +1,13 @@
 // Letters put into a line in memory: each function puts them at a place, and answers the place after them. What does not fit is left out.
 ghost use Rattle.std.specs.Prelude.{◌<◌};
 
+use itoa::Buffer;
+
 // A number, after a space.
 pub fn number(line: &mut [u8], at: usize, n: u64) -> usize {
-    let mut digits = [0u8; 20];
-    let count = io::decimal(n, &mut digits);
+    let mut digits = Buffer::new();
     let end = letter(line, at, b' ');
-    word(line, end, &digits[..count])
+    word(line, end, digits.format(n).as_bytes())
 }
 
 fn word(line: &mut [u8], at: usize, letters: &[u8]) -> usize {

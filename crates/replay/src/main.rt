@@ -13,10 +13,14 @@ mod state_lines;
 mod text;
 mod timer_calls;
 
+ghost use Rattle.std.specs.Prelude.{IfOk};
 ghost use Rattle.connection.specs.Record.{Sound};
 
 use input::Input;
 use state::State;
+use std::io;
+use std::io::{BufReader, Read};
+use text::Text;
 
 // The state after a turn, and whether another turn follows.
 #[derive(Clone, Copy)]
@@ -25,38 +29,53 @@ struct Turn {
     more: bool,
 }
 
-fn main() {
+fn main(rt: HostRuntime) -> io::Result<()> {
+    let mut script = BufReader::new(rt.alloc(), rt.stdin())?;
+    let mut out = text::new(rt.alloc());
     let mut body = body::space();
-    play(&mut body);
+    play(&rt, &mut script, &mut out, &mut body)
 }
 
 // A proved loop has to end, so it counts down from a number that no script uses up.
-fn play(body: &mut [u8]) {
+fn play(
+    rt: &impl Print,
+    script: &mut impl Read,
+    out: &mut Text,
+    body: &mut [u8],
+) -> io::Result<()> {
     let mut state = state::new();
     let mut turns = u64::MAX;
     while 0 < turns {
-        let turn = play_one(state, body);
+        let turn = play_one(rt, script, out, state, body)?;
         if !turn.more {
-            return;
+            return Ok(());
         }
         state = turn.state;
         turns -= 1;
     }
+    Ok(())
 }
 
 // Reads one call, makes it and writes its answer.
-fn play_one(state: State, body: &mut [u8]) -> Turn
+fn play_one(
+    rt: &impl Print,
+    script: &mut impl Read,
+    out: &mut Text,
+    state: State,
+    body: &mut [u8],
+) -> io::Result<Turn>
     requires { Sound state.connection }
-    ensures { Sound result.state.connection }
+    ensures { IfOk result (λ t. Sound t.state.connection) }
 {
-    let input = input::next(body);
+    let input = input::next(script, body)?;
     match input {
-        Input::End => last(state),
+        Input::End => Ok(last(state)),
         Input::Bad => {
-            text::word(b"bad\n");
-            last(state)
+            text::word(out, b"bad\n");
+            text::write(out, rt)?;
+            Ok(last(state))
         }
-        Input::Call(call, length) => play_call(state, call, body::first(body, length)),
+        Input::Call(call, length) => play_call(rt, out, state, call, body::first(body, length)),
     }
 }
 
@@ -67,28 +86,35 @@ fn last(state: State) -> Turn
     Turn { state, more: false }
 }
 
-// Makes a call, and ends the last line of its answer.
-fn play_call(state: State, call: u8, body: &[u8]) -> Turn
+// Makes a call, and writes its answer with the end of its last line.
+fn play_call(
+    rt: &impl Print,
+    out: &mut Text,
+    state: State,
+    call: u8,
+    body: &[u8],
+) -> io::Result<Turn>
     requires { Sound state.connection }
-    ensures { Sound result.state.connection }
+    ensures { IfOk result (λ t. Sound t.state.connection) }
 {
-    let state = answer(state, call, body);
-    let more = text::newline();
-    Turn { state, more }
+    let state = answer(out, state, call, body);
+    text::newline(out);
+    text::write(out, rt)?;
+    Ok(Turn { state, more: true })
 }
 
-// Makes a call, and writes its answer.
-fn answer(state: State, call: u8, body: &[u8]) -> State
+// Makes a call, and puts down its answer.
+fn answer(out: &mut Text, state: State, call: u8, body: &[u8]) -> State
     requires { Sound state.connection }
     ensures { Sound result.connection }
 {
     match call {
-        4 => record_calls::open(state, body),
-        5..=9 => record_calls::answer(state, call, body),
-        10..=12 => timer_calls::answer(state, call, body),
-        19 => record_calls::open_under_profile(state, body),
+        4 => record_calls::open(out, state, body),
+        5..=9 => record_calls::answer(out, state, call, body),
+        10..=12 => timer_calls::answer(out, state, call, body),
+        19 => record_calls::open_under_profile(out, state, body),
         _ => {
-            queries::answer(call, body);
+            queries::answer(out, call, body);
             state
         }
     }

@@ -1,53 +1,56 @@
 // Calls without a state: reading a segment, finding an option, the distance, and the functions for C.
+use crate::text::Text;
 use crate::{body, place_or_count, state_lines, text};
 use offers::Scale;
 use segment::{Flags, Mss, Options, Reading, Segment, Timestamps};
 use serial::Seq;
 
 // Makes the call, and writes its answer.
-pub fn answer(call: u8, body: &[u8]) {
+pub fn answer(out: &mut Text, call: u8, body: &[u8]) {
     match call {
-        1 => read(body),
-        2 => find(body),
-        3 => distance(body),
-        13 => refusal(body),
-        14 => distance_for_c(body),
-        _ => milliseconds(body),
+        1 => read(out, body),
+        2 => find(out, body),
+        3 => distance(out, body),
+        13 => refusal(out, body),
+        14 => distance_for_c(out, body),
+        _ => milliseconds(out, body),
     }
 }
 
-fn read(segment: &[u8]) {
+fn read(out: &mut Text, segment: &[u8]) {
     let reading = segment::read(segment);
-    text::start(b"read", reading.number());
+    text::start(out, b"read", reading.number());
     match reading {
         Reading::Refused(why, steps) => {
-            place_or_count::place(why);
-            text::long(steps as u64);
+            place_or_count::place(out, why);
+            text::long(out, steps as u64);
         }
         Reading::Segment(whole, steps) => {
-            fields(whole);
-            text::long(steps as u64);
+            fields(out, whole);
+            text::long(out, steps as u64);
         }
     }
 }
 
-fn fields(s: Segment) {
-    header_numbers(s);
-    option_values(s.options);
+fn fields(out: &mut Text, s: Segment) {
+    header_numbers(out, s);
+    option_values(out, s.options);
     let payload = s.payload;
-    text::long(payload.start as u64);
-    text::number(payload.length);
-    place_or_count::skipped(s.skipped);
+    text::long(out, payload.start as u64);
+    text::number(out, payload.length);
+    place_or_count::skipped(out, s.skipped);
 }
 
-fn header_numbers(s: Segment) {
+fn header_numbers(out: &mut Text, s: Segment) {
     text::four(
+        out,
         text::from_u16(s.source),
         text::from_u16(s.destination),
         s.seq.0,
         s.ack.0,
     );
     text::three(
+        out,
         flags_octet(s.flags),
         text::from_u16(s.window),
         text::from_u16(s.urgent),
@@ -64,78 +67,78 @@ fn flags_octet(f: Flags) -> u32 {
     16 * high + low
 }
 
-fn option_values(options: Options) {
+fn option_values(out: &mut Text, options: Options) {
     let mss = options.mss;
     let scale = options.scale;
     let timestamps = options.timestamps;
     let reported = options.blocks;
-    mss_value(mss);
-    scale_value(scale);
-    text::flag(options.permitted);
-    timestamp_values(timestamps);
-    state_lines::blocks(reported)
+    mss_value(out, mss);
+    scale_value(out, scale);
+    text::flag(out, options.permitted);
+    timestamp_values(out, timestamps);
+    state_lines::blocks(out, reported)
 }
 
-fn mss_value(mss: Mss) {
+fn mss_value(out: &mut Text, mss: Mss) {
     match mss {
-        Mss::Absent => text::absent(),
-        Mss::Octets(n) => text::number(text::from_u16(n)),
+        Mss::Absent => text::absent(out),
+        Mss::Octets(n) => text::number(out, text::from_u16(n)),
     }
 }
 
-fn scale_value(scale: Scale) {
+fn scale_value(out: &mut Text, scale: Scale) {
     match scale {
-        Scale::Absent => text::absent(),
-        Scale::Shift(shift) => text::number(text::from_u8(shift)),
+        Scale::Absent => text::absent(out),
+        Scale::Shift(shift) => text::number(out, text::from_u8(shift)),
     }
 }
 
 // TSval and TSecr.
-fn timestamp_values(timestamps: Timestamps) {
+fn timestamp_values(out: &mut Text, timestamps: Timestamps) {
     match timestamps {
         Timestamps::Absent => {
-            text::absent();
-            text::absent();
+            text::absent(out);
+            text::absent(out);
         }
-        Timestamps::Pair(value, echoed) => text::two(value.0, echoed.0),
+        Timestamps::Pair(value, echoed) => text::two(out, value.0, echoed.0),
     }
 }
 
-fn find(body: &[u8]) {
+fn find(out: &mut Text, body: &[u8]) {
     let count = octets::read_u8(body, 0) as usize;
     let lists = body::rest(body, 1);
     let kinds = body::first(lists, count);
     let found = segment::find_option(body::rest(lists, count), kinds);
-    text::word(b"find");
-    text::octets(found);
+    text::word(out, b"find");
+    text::octets(out, found);
 }
 
-fn distance(body: &[u8]) {
+fn distance(out: &mut Text, body: &[u8]) {
     let from = Seq(octets::read_u32(body, 0));
     let to = Seq(octets::read_u32(body, 4));
-    distance_line(from.distance(to));
+    distance_line(out, from.distance(to));
 }
 
-fn distance_for_c(body: &[u8]) {
+fn distance_for_c(out: &mut Text, body: &[u8]) {
     let from = octets::read_u32(body, 0);
     let to = octets::read_u32(body, 4);
-    distance_line(gateway::noppalerk_distance(from, to));
+    distance_line(out, gateway::noppalerk_distance(from, to));
 }
 
-fn distance_line(distance: i32) {
-    text::word(b"distance");
-    text::signed(distance);
+fn distance_line(out: &mut Text, distance: i32) {
+    text::word(out, b"distance");
+    text::signed(out, distance);
 }
 
-fn refusal(segment: &[u8]) {
-    text::word(b"refusal");
-    text::number(gateway::noppalerk_refusal(segment));
+fn refusal(out: &mut Text, segment: &[u8]) {
+    text::word(out, b"refusal");
+    text::number(out, gateway::noppalerk_refusal(segment));
 }
 
-fn milliseconds(body: &[u8]) {
+fn milliseconds(out: &mut Text, body: &[u8]) {
     let srtt = body::read_u64(body);
     let rttvar = body::read_u64(body::rest(body, 8));
     let ms = gateway::noppalerk_milliseconds(srtt, rttvar);
-    text::word(b"milliseconds");
-    text::number(ms);
+    text::word(out, b"milliseconds");
+    text::number(out, ms);
 }

@@ -1,6 +1,7 @@
 // The lines of a record and of a timer, and the ranges that an answer lists.
 use crate::state::State;
 use crate::text;
+use crate::text::Text;
 use connection::Connection;
 use receive::{Held, Receive};
 use rto::Timer;
@@ -10,87 +11,87 @@ use serial::Range;
 use timestamps::Timestamping;
 
 // The line of the state's record.
-pub fn record_line(state: State) {
-    text::word(b"record");
+pub fn record_line(out: &mut Text, state: State) {
+    text::word(out, b"record");
     if !state.open {
-        text::absent();
+        text::absent(out);
         return;
     }
-    connection_numbers(state.connection);
+    connection_numbers(out, state.connection);
 }
 
 // The line of a timer.
-pub fn timer_line(timer: Timer) {
-    text::word(b"timer-state");
-    timer_numbers(timer);
+pub fn timer_line(out: &mut Text, timer: Timer) {
+    text::word(out, b"timer-state");
+    timer_numbers(out, timer);
 }
 
 // The number of SACK blocks, and their edges.
-pub fn blocks(blocks: SackBlocks) {
+pub fn blocks(out: &mut Text, blocks: SackBlocks) {
     match blocks {
-        SackBlocks::Absent => text::number(0),
+        SackBlocks::Absent => text::number(out, 0),
         SackBlocks::One(a) => {
-            text::number(1);
-            edges(a);
+            text::number(out, 1);
+            edges(out, a);
         }
         SackBlocks::Two(a, b) => {
-            text::number(2);
-            edges(a);
-            edges(b);
+            text::number(out, 2);
+            edges(out, a);
+            edges(out, b);
         }
         SackBlocks::Three(a, b, c) => {
-            text::number(3);
-            edges(a);
-            edges(b);
-            edges(c);
+            text::number(out, 3);
+            edges(out, a);
+            edges(out, b);
+            edges(out, c);
         }
         SackBlocks::Four(a, b, c, d) => {
-            text::number(4);
-            edges(a);
-            edges(b);
-            edges(c);
-            edges(d);
+            text::number(out, 4);
+            edges(out, a);
+            edges(out, b);
+            edges(out, c);
+            edges(out, d);
         }
     }
 }
 
-fn connection_numbers(k: Connection) {
-    receive_numbers(k.receive);
-    send_numbers(k.send);
-    timestamping(k.timestamping);
-    text::two(text::bit(k.sack), text::from_u16(k.mss));
-    held_ranges(k.receive.held);
-    timer_numbers(k.timer);
-    text::number(k.send.largest);
+fn connection_numbers(out: &mut Text, k: Connection) {
+    receive_numbers(out, k.receive);
+    send_numbers(out, k.send);
+    timestamping(out, k.timestamping);
+    text::two(out, text::bit(k.sack), text::from_u16(k.mss));
+    held_ranges(out, k.receive.held);
+    timer_numbers(out, k.timer);
+    text::number(out, k.send.largest);
 }
 
-fn receive_numbers(r: Receive) {
-    text::four(r.nxt.0, r.window, r.acked.0, r.shift);
+fn receive_numbers(out: &mut Text, r: Receive) {
+    text::four(out, r.nxt.0, r.window, r.acked.0, r.shift);
 }
 
-fn send_numbers(s: Send) {
-    text::three(s.shift, s.una.0, s.nxt.0);
-    text::three(s.window, s.wl1.0, s.wl2.0);
+fn send_numbers(out: &mut Text, s: Send) {
+    text::three(out, s.shift, s.una.0, s.nxt.0);
+    text::three(out, s.window, s.wl1.0, s.wl2.0);
 }
 
-fn timestamping(t: Timestamping) {
-    text::two(text::bit(t.active), t.recent.0);
-    text::long(t.since);
-    text::number(t.offset);
+fn timestamping(out: &mut Text, t: Timestamping) {
+    text::two(out, text::bit(t.active), t.recent.0);
+    text::long(out, t.since);
+    text::number(out, t.offset);
 }
 
 // The number of ranges held, and their edges, newest first.
-fn held_ranges(held: Held) {
-    text::long(held.count as u64);
+fn held_ranges(out: &mut Text, held: Held) {
+    text::long(out, held.count as u64);
     let mut i = 0;
     while i < 8 {
-        held_range(held, i);
+        held_range(out, held, i);
         i += 1;
     }
 }
 
 // The edges of the range in this slot, nothing where the slot is unused.
-fn held_range(held: Held, slot: usize) {
+fn held_range(out: &mut Text, held: Held, slot: usize) {
     if held.count <= slot {
         return;
     }
@@ -98,15 +99,16 @@ fn held_range(held: Held, slot: usize) {
         return;
     }
     let range = held.ranges[slot];
-    edges(range);
+    edges(out, range);
 }
 
-fn edges(range: Range) {
-    text::two(range.left.0, range.right.0);
+fn edges(out: &mut Text, range: Range) {
+    text::two(out, range.left.0, range.right.0);
 }
 
-fn timer_numbers(timer: Timer) {
+fn timer_numbers(out: &mut Text, timer: Timer) {
     text::four(
+        out,
         text::bit(timer.sampled),
         timer.srtt,
         timer.rttvar,

@@ -1,81 +1,106 @@
-// Text written to standard output: the words of a line, and its fields, each with a space before it.
+// The text of an answer, kept until it is written to standard output: the words of a line, and its fields, each with a space before it.
 ghost use Rattle.std.specs.Prelude.{◌≡◌, ◌≤◌, length};
 
 use crate::{body, letters};
-use libc::STDOUT_FILENO;
+use itoa::Buffer;
+use std::alloc::{AllocError, Global};
+use std::io;
 
-// Letters as they stand; whether they were written.
-pub fn word(letters: &[u8]) -> bool {
-    io::write_all(STDOUT_FILENO, letters)
+#[derive(Drop)]
+pub struct Text {
+    letters: Vec<u8>,
+    // Whether there was no memory for some of it.
+    cut: Option<AllocError>,
 }
 
-pub fn newline() -> bool {
-    word(b"\n")
+pub fn new(alloc: Global) -> Text {
+    Text {
+        letters: Vec::new(alloc),
+        cut: None,
+    }
+}
+
+// Writes all of it, and leaves nothing.
+pub fn write(out: &mut Text, rt: &impl Print) -> io::Result<()> {
+    if let Some(cut) = out.cut {
+        return Err(io::Error::from(cut));
+    }
+    rt.write_all(out.letters.as_slice())?;
+    out.letters.clear();
+    Ok(())
+}
+
+// Letters as they stand.
+pub fn word(out: &mut Text, letters: &[u8]) {
+    if let Err(cut) = out.letters.extend_from_slice(letters) {
+        out.cut = Some(cut);
+    }
+}
+
+pub fn newline(out: &mut Text) {
+    word(out, b"\n");
 }
 
 // The first word of a line, and the number after it.
-pub fn start(first: &[u8], n: u8) {
-    word(first);
-    number(from_u8(n));
+pub fn start(out: &mut Text, first: &[u8], n: u8) {
+    word(out, first);
+    number(out, from_u8(n));
 }
 
-pub fn number(n: u32) {
-    long(from_u32(n));
+pub fn number(out: &mut Text, n: u32) {
+    long(out, from_u32(n));
 }
 
-pub fn long(n: u64) {
+pub fn long(out: &mut Text, n: u64) {
     let mut line = [0u8; 24];
     let end = letters::number(&mut line, 0, n);
-    word(body::first(&line, end));
+    word(out, body::first(&line, end));
 }
 
-// Several numbers at once: each write is a call of the system.
-pub fn two(a: u32, b: u32) {
-    let mut line = [0u8; 48];
-    let end = letters::number(&mut line, 0, from_u32(a));
-    let end = letters::number(&mut line, end, from_u32(b));
-    word(body::first(&line, end));
+pub fn two(out: &mut Text, a: u32, b: u32) {
+    number(out, a);
+    number(out, b);
 }
 
-pub fn three(a: u32, b: u32, c: u32) {
-    two(a, b);
-    number(c);
+pub fn three(out: &mut Text, a: u32, b: u32, c: u32) {
+    two(out, a, b);
+    number(out, c);
 }
 
-pub fn four(a: u32, b: u32, c: u32, d: u32) {
-    two(a, b);
-    two(c, d);
+pub fn four(out: &mut Text, a: u32, b: u32, c: u32, d: u32) {
+    two(out, a, b);
+    two(out, c, d);
 }
 
-pub fn flag(set: bool) {
-    number(bit(set));
+pub fn flag(out: &mut Text, set: bool) {
+    number(out, bit(set));
 }
 
 // A number that may be negative.
-pub fn signed(n: i32) {
+pub fn signed(out: &mut Text, n: i32) {
     if n < 0 {
-        word(b" -");
-        digits(magnitude(n));
+        word(out, b" -");
+        digits(out, magnitude(n));
         return;
     }
-    long(magnitude(n));
+    long(out, magnitude(n));
 }
 
 // What is absent.
-pub fn absent() {
-    word(b" -");
+pub fn absent(out: &mut Text) {
+    word(out, b" -");
 }
 
 // Octets in hexadecimal, run together.
-pub fn octets(octets: &[u8]) {
+pub fn octets(out: &mut Text, octets: &[u8]) {
     if octets.len() == 0 {
-        absent();
+        absent(out);
         return;
     }
     let mut line = space();
     let end = letters::octets(&mut line, octets);
-    word(b" ");
-    word(body::first(&line, end));
+    word(out, b" ");
+    word(out, body::first(&line, end));
 }
 
 // 1 for what is set, 0 for what is not.
@@ -98,10 +123,9 @@ fn from_u32(n: u32) -> u64 {
     n as u64
 }
 
-fn digits(n: u64) {
-    let mut line = [0u8; 20];
-    let count = io::decimal(n, &mut line);
-    word(&line[..count]);
+fn digits(out: &mut Text, n: u64) {
+    let mut line = Buffer::new();
+    word(out, line.format(n).as_bytes());
 }
 
 // A number without its sign; -2^31 is turned round by way of -1 - n, which an i32 holds.
