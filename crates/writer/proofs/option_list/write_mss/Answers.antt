@@ -16,5 +16,5 @@ unfolding mss_written big_endian
 returns-in-Octets c =
     let a = c.args in
     let l = a.octets.now in
-    rw c.in-Octets.is
-    (sets_then l a.at (2 ∷ 4 ∷ []) (big_endian 2 c.in-Octets.n) (sets_then l a.at (2 ∷ []) (4 ∷ []) c.write_u8.ensures c.write_u8-in-Octets.ensures) c.write_u16.ensures, refl)
+    let start = sets_then l a.at (2 ∷ []) (4 ∷ []) c.write_u8.ensures c.write_u8-in-Octets.ensures in
+    rw c.in-Octets.is (sets_then l a.at (2 ∷ 4 ∷ []) (big_endian 2 c.in-Octets.n) start c.write_u16.ensures, refl)

@@ -24,10 +24,12 @@ pub returns-in-Three : goal.returns-in-Three
 returns-in-Three c =
     let v = c.in-Three in
     let a = c.args in
-    rw v.is (sack_stored a.octets.now a.at v.a (v.b ∷ v.c ∷ []) c.write_sack_start-in-Three.ensures (blocks_stored _ a.at v.a v.b (v.c ∷ []) c.write_two_blocks-in-Three.ensures c.write_block-in-Three.ensures))
+    let blocks = blocks_stored _ a.at v.a v.b (v.c ∷ []) c.write_two_blocks-in-Three.ensures c.write_block-in-Three.ensures in
+    rw v.is (sack_stored a.octets.now a.at v.a (v.b ∷ v.c ∷ []) c.write_sack_start-in-Three.ensures blocks)
 
 pub returns-in-Four : goal.returns-in-Four
 returns-in-Four c =
     let v = c.in-Four in
     let a = c.args in
-    rw v.is (sack_stored a.octets.now a.at v.a (v.b ∷ v.c ∷ v.d ∷ []) c.write_sack_start-in-Four.ensures (blocks_stored _ a.at v.a v.b (v.c ∷ v.d ∷ []) c.write_two_blocks-in-Four.ensures c.write_two_blocks-in-Four-2.ensures))
+    let blocks = blocks_stored _ a.at v.a v.b (v.c ∷ v.d ∷ []) c.write_two_blocks-in-Four.ensures c.write_two_blocks-in-Four-2.ensures in
+    rw v.is (sack_stored a.octets.now a.at v.a (v.b ∷ v.c ∷ v.d ∷ []) c.write_sack_start-in-Four.ensures blocks)
