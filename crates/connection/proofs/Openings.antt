@@ -5,7 +5,7 @@ use mathlib.Core.List.{List, []}
 use mathlib.Core.Logic.{◌⊎◌, inl, inr}
 use mathlib.Core.Option.{none, some, Option-elim}
 use mathlib.Core.Path.{◌≡◌, refl, sym, ap, subst, ◌∙◌}
-use Prim.Native.Nat.{ℕ, ◌+◌, ◌%◌, ◌^◌, ◌≤◌}
+use Prim.Native.Nat.{ℕ, ◌+◌, ◌%◌, ◌^◌, ◌<◌, ◌≤◌}
 use native.Mathlib.Omega.{arith}
 use borrow.Author.Tests.{eq-eqb, ne_eqb, not-false}
 use Rattle.laws.proofs.Choices.{either, if_some, neither}
@@ -127,20 +127,27 @@ opening_gives own clock syn =
     Given : OpeningAnswer → Type 0
     Given a = a.number ≡ 0 → Gives own clock syn a
 
+-- SYN counts in the LEN of a segment that is read from octets
+pub syn_counts : (own : Setup) (clock : ℕ) (octets : List ℕ) (syn : Segment) → fields_of (unread octets) ≡ some syn
+    → (opened_by own clock (unread octets)).number ≡ 0 → 0 < syn.len
+syn_counts own clock octets syn is opens =
+    let by = opened_by_fields own clock (unread octets) syn is in
+    let gives = opening_gives own clock syn (sym (ap (λ (a : OpeningAnswer). a.number) by) ∙ opens) in
+    let len = (readable octets syn (read_whole octets syn is)).len_is in
+    let counted : ◌≡◌ {A = ℕ} (cond syn.flags.syn 1 0) 1 = ap (λ b. cond b 1 0) gives.from_syn in
+    omega arith
+
 -- what opens by either way opens without the profile
 opens_plain : (way : Way) (own : Setup) (clock : ℕ) (i : Incoming) → (opened_under way own clock i).number ≡ 0 → (opened_by own clock i).number ≡ 0
 opens_plain plain own clock i opens = opens
 opens_plain profile own clock i opens =
     profiled_cases (λ a. a.opening.number ≡ 0 → (opened_by own clock i).number ≡ 0) own clock i (λ e. e) (λ opens _ _ _ _ _. opens) opens
 
--- SYN counts in the LEN of a segment that is read from octets
-pub syn_counts : (way : Way) (own : Setup) (clock : ℕ) (octets : List ℕ) (syn : Segment) → fields_of (unread octets) ≡ some syn
+-- the same by either way
+pub syn_counts_by_way : (way : Way) (own : Setup) (clock : ℕ) (octets : List ℕ) (syn : Segment) → fields_of (unread octets) ≡ some syn
     → (opened_under way own clock (unread octets)).number ≡ 0 → 1 ≤ syn.len
-syn_counts way own clock octets syn is opens =
-    let by = opened_by_fields own clock (unread octets) syn is in
-    let gives = opening_gives own clock syn (sym (ap (λ (a : OpeningAnswer). a.number) by) ∙ opens_plain way own clock (unread octets) opens) in
-    let len = (readable octets syn (read_whole octets syn is)).len_is in
-    let counted : ◌≡◌ {A = ℕ} (cond syn.flags.syn 1 0) 1 = ap (λ b. cond b 1 0) gives.from_syn in
+syn_counts_by_way way own clock octets syn is opens =
+    let counts = syn_counts own clock octets syn is (opens_plain way own clock (unread octets) opens) in
     omega arith
 
 -- what the peer's SYN offers: what it has

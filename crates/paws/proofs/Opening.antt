@@ -18,7 +18,7 @@ use Rattle.connection.specs.Opening.{peer_offers}
 use Rattle.connection.specs.declared.Connection.{Connection}
 use Rattle.connection.specs.declared.Setup.{Setup}
 use Rattle.connection.proofs.Keeping.{opened_sound}
-use Rattle.connection.proofs.Openings.{Opens, opening_opens, syn_counts}
+use Rattle.connection.proofs.Openings.{Opens, opening_opens, syn_counts_by_way}
 use Rattle.paws.specs.History.{Brings, Sent}
 use Rattle.paws.specs.Premises.{SynCounts}
 use Rattle.paws.specs.Runs as runs
@@ -27,7 +27,7 @@ use Rattle.paws.proofs.Invariant.{Holds}
 
 syn_filled : {history : List Sent} (way : Way) (own : Setup) (clock : ℕ) (i : Incoming) (b : Brings history i)
     → (opened_under way own clock i).number ≡ 0 → SynCounts i b.sent → 1 ≤ b.sent.len
-syn_filled way own clock (unread octets) b opens counts = rw b.len at (syn_counts way own clock octets b.fields b.reads opens)
+syn_filled way own clock (unread octets) b opens counts = rw b.len at (syn_counts_by_way way own clock octets b.fields b.reads opens)
 syn_filled way own clock (read s) b opens counts = counts
 
 module _ {history : List Sent} (o : Opening history) (counts : SynCounts o.segment o.syn.sent) where
