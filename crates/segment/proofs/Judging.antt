@@ -50,7 +50,7 @@ same_faults a b (step ∷ later) e =
     let here = same_fault_at a b step e in
     let after = same_faults (a ++ (step ∷ [])) (b ++ (step ∷ [])) later (same_after a b (step ∷ []) e) in (
       λ i. cond (eqb (here i) 0) (after.0 i) (some (record { number = here i; place = step_place step })),
-      λ i. step ∷ cond (eqb (here i) 0) (after.1 i) [],
+      rw (here, after.1),
     )
 
 same_outcome : (a b : List Step) (k : ℕ) (later : List Step) (n : ℕ) (notes : List ℕ) → SameOptions a b → Outcome a k later n notes → Outcome b k later n notes

@@ -156,7 +156,8 @@ module _ (s : List ℕ) where
       let wrong = judged_only before step n j in
       let fault = first_fault before step after n clean wrong given in
       let is = refused_if s p (record { number = n; place = step_place step }) (ap (fault_in []) stands ∙ fault.0) in
-      let counted = ap length (steps_if s p ∙ ap (up_to_fault []) stands ∙ fault.1) ∙ length-append before (step ∷ []) in
+      let counted : steps_taken s ≡ length before + 1 =
+      omega (arith, ap length (steps_if s p), ap length (ap (up_to_fault []) stands), ap length fault.1, length-append before (step ∷ [])) in
       let a = answered is counted in
       (a.0, a.1 ∙ ap some (place_counted s before step after stands), a.2)
   given_only n place steps (readable p pass) =
