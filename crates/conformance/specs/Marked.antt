@@ -1,32 +1,21 @@
 -- Document 01's "Marked cases M1 to M12" as one table: `worked` is what the definitions give for each case, `paper` what document 01 gives, of
--- M11 and M12 with document 02's margin, and `marked` says that the two are equal. Every record in it is one that an opening gave, or an opening and the segments after it.
-use Rattle.std.specs.Prelude.{ℕ, ◌+◌, ◌-◌, ◌^◌, Bool, true, false, List, [], ◌∷◌, ◌++◌, ◌≡◌, refl, ltb, ℤ, pos, neg_ℤ, drop, replicate, take}
-use Rattle.std.proofs.Math.Option.{Option-elim}
-use Rattle.std.proofs.Common.{ap, ◌∙◌}
-use Rattle.serial.specs.Serial.{distance_of, offset_of, range}
+-- M11 and M12 with document 02's margin, and `marked` of proofs/Marked.antt says that the two are equal. Every record in it is one that
+-- an opening gave, or an opening and the segments after it.
+use Rattle.std.specs.Prelude.{ℕ, ◌-◌, ◌^◌, Bool, true, false, List, [], ◌∷◌, ◌++◌, ltb, ℤ, pos, neg_ℤ, drop, replicate, take}
+use Rattle.serial.specs.Serial.{distance_of, range}
 use Rattle.serial.specs.declared.Range.{Range}
-use Rattle.octets.specs.Octets.{big_endian, number_at}
 use Rattle.rto.specs.Calls as rto
 use Rattle.rto.specs.Timer.{new_timer}
-use Rattle.segment.specs.Grammar.{is_broken, padding, padding_rule}
-use Rattle.segment.specs.Options as options
-use Rattle.segment.specs.Reading.{options_read, reading, segment_of}
-use Rattle.writer.specs.Writing as writing
-use Rattle.offers.specs.Offers.{exceed_limits, in_force, shifts_in_force}
+use Rattle.segment.specs.Reading.{reading}
+use Rattle.offers.specs.Offers.{in_force}
 use Rattle.offers.specs.declared.Offers.{Offers}
 use Rattle.offers.specs.declared.Scale.{Scale}
-use Rattle.receive.specs.Ranges.{held_of, is_out_of_order, joined, left_of, meets, no_room, range_of, ranges_after, ranges_of, right_of}
-use Rattle.receive.specs.Taking as taking
-use Rattle.receive.specs.Window as receive
+use Rattle.receive.specs.Ranges.{ranges_of}
 use Rattle.send.specs.Send as send
 use Rattle.send.specs.declared.AckFields.{AckFields}
-use Rattle.timestamps.specs.Timestamps as timestamps
-use Rattle.connection.specs.Arriving.{arriving, arriving_read, judged, settled, taken_by}
-use Rattle.connection.specs.Calls.{Call, arrival, called, run, unread}
+use Rattle.connection.specs.Calls.{Call, arrival, run, unread}
 use Rattle.connection.specs.Cases as cases
-use Rattle.connection.specs.Opening.{is_not_syn, is_wrong_ack, opening, opening_from, record_from, record_with}
-use Rattle.connection.specs.Taking.{fed_by, record_after}
-use Rattle.connection.specs.Verdict.{rows}
+use Rattle.connection.specs.Opening.{opening}
 use Rattle.connection.specs.declared.Connection.{Connection}
 use Rattle.connection.specs.declared.Setup.{Setup}
 use Rattle.acknowledgment.specs.Acknowledgment as ack
@@ -42,22 +31,22 @@ pub data Fact : Type 0 where
   ranges : List Range → Fact
 
 -- the fields of a segment that the send side takes: SEQ, ACK, window
-send_fields : ℕ → ℕ → ℕ → AckFields
+unfoldable pub send_fields : ℕ → ℕ → ℕ → AckFields
 send_fields seq ack window = record { seq = record { 0 = seq }; ack = record { 0 = ack }; window = window }
 
 -- window scaling offered with this shift, and nothing else
-scaling : ℕ → Offers
+unfoldable pub scaling : ℕ → Offers
 scaling shift = record { scale = Scale.Shift shift; timestamps = false; sack = false }
 
 -- a segment of the peer with ACK: SEQ, options, octets of payload; and its arrival, without options
-segment : ℕ → List ℕ → ℕ → List ℕ
+unfoldable pub segment : ℕ → List ℕ → ℕ → List ℕ
 segment seq options payload = cases.octets seq 1000 16 9 options payload
 
-at : ℕ → ℕ → Call
+unfoldable pub at : ℕ → ℕ → Call
 at seq payload = arrival 0 (unread (segment seq [] payload))
 
 -- timestamps and SACK offered; first receive window 65,535; our timestamp is the clock
-own : Setup
+unfoldable pub own : Setup
 own = record {
   iss = record { 0 = 1000 };
   offers = record { scale = Scale.Absent; timestamps = true; sack = true };
@@ -66,20 +55,20 @@ own = record {
 }
 
 -- the record that a SYN with these options opens at clock 0; its SEQ is 4999, so RCV.NXT is 5000
-opened : List ℕ → Connection
+unfoldable pub opened : List ℕ → Connection
 opened options = (opening own 0 (cases.octets 4999 0 2 9 options 0)).connection
 
 -- SACK-permitted, NOP, NOP
-permitted : List ℕ
+unfoldable pub permitted : List ℕ
 permitted = 4 ∷ 2 ∷ 1 ∷ 1 ∷ []
 
 -- the octets after the fixed header of the acknowledgment that a record writes at a clock
-option_octets : Connection → ℕ → List ℕ
+unfoldable pub option_octets : Connection → ℕ → List ℕ
 option_octets k clock =
     let a = ack.acknowledging k (record { source = 443; destination = 40001 }) clock (replicate 60 0) in
     drop 20 (take a.length a.buffer)
 
-pub worked : Case → List Fact
+unfoldable pub worked : Case → List Fact
 -- the distance from the first number to the second
 worked M1 = integer (distance_of 4294967295 0) ∷ []
 worked M2 = integer (distance_of 0 (2 ^ 31)) ∷ []
@@ -108,7 +97,7 @@ worked M12 =
     let timer = rto.run new_timer (rto.sample 1000 1 ∷ rto.sample 1001 1 ∷ []) in
     number timer.srtt ∷ number timer.rttvar ∷ number timer.timeout ∷ []
 
-pub paper : Case → List Fact
+unfoldable pub paper : Case → List Fact
 paper M1 = integer (pos 1) ∷ []
 paper M2 = integer (neg_ℤ (pos (2 ^ 31))) ∷ []
 paper M3 = integer (pos 2147483647) ∷ []
@@ -116,52 +105,8 @@ paper M4 = number 1073725440 ∷ holds true ∷ []
 paper M5 = number 14 ∷ []
 paper M6 = number 0 ∷ []
 paper M7 = number 4 ∷ []
-paper M8 = octets (0x01 ∷ 0x01 ∷ 0x08 ∷ 0x0_a ∷ 0x00 ∷ 0x00 ∷ 0x00 ∷ 0x01 ∷ 0x00 ∷ 0x00 ∷ 0x00 ∷ 0x02 ∷ []) ∷ []
-paper M9 = octets (0x01 ∷ 0x01 ∷ 0x05 ∷ 0x0_a ∷ 0x00 ∷ 0x00 ∷ 0x15 ∷ 0x7_c ∷ 0x00 ∷ 0x00 ∷ 0x23 ∷ 0x28 ∷ []) ∷ []
+paper M8 = octets (0x01 ∷ 0x01 ∷ 0x08 ∷ 0x0A ∷ 0x00 ∷ 0x00 ∷ 0x00 ∷ 0x01 ∷ 0x00 ∷ 0x00 ∷ 0x00 ∷ 0x02 ∷ []) ∷ []
+paper M9 = octets (0x01 ∷ 0x01 ∷ 0x05 ∷ 0x0A ∷ 0x00 ∷ 0x00 ∷ 0x15 ∷ 0x7C ∷ 0x00 ∷ 0x00 ∷ 0x23 ∷ 0x28 ∷ []) ∷ []
 paper M10 = number 5500 ∷ ranges (range 8000 8500 ∷ range 7000 7500 ∷ range 6000 6500 ∷ []) ∷ []
 paper M11 = number 3004 ∷ []
 paper M12 = number 256032 ∷ number 96064 ∷ number 2505 ∷ []
-
--- M10 is computed segment by segment, since nothing is shared within one computation: this is the record after the segment at WL1, which
--- holds ranges of 500 numbers from these on. Whoever unfolds it unfolds all that the cases are computed with.
-after : List ℕ → ℕ → Connection
-unfolding send_fields scaling segment at own opened permitted option_octets distance_of offset_of big_endian number_at Option-elim
-    is_broken padding padding_rule options.fault_at options.fault_in options.is_repeated options.is_wrong_length options.lengths_of
-    options.one_to_four options.option_in options.options_of options.stands_in options_read reading segment_of exceed_limits in_force shifts_in_force
-    held_of is_out_of_order joined left_of meets no_room range_of ranges_after ranges_of right_of taking.advanced taking.holding taking.taken
-    receive.acceptable receive.lacks_room receive.new_part receive.opened send.opened send.is_too_old send.is_new send.acknowledged send.is_current send.is_later
-    send.updates_window send.windowed send.taken is_not_syn is_wrong_ack opening opening_from record_from record_with timestamps.opened
-    timestamps.is_old timestamps.is_missing rows fed_by timestamps.is_recorded record_after timestamps.taken arriving arriving_read judged settled taken_by
-    writing.header_written writing.mss_written writing.timestamps_written writing.scale_written writing.blocks_written writing.sack_written
-    writing.others_written writing.fitting writing.options_written writing.written writing.blocks_of_list writing.writing ack.own_timestamps
-    ack.own_blocks ack.own_options ack.acknowledging
-after lefts wl1 =
-    cases.record_holding 5500 65035 500 lefts wl1 (record { active = false; recent = record { 0 = 0 }; since = 0; offset = 0 })
-
-steps : (called (opened []) (at 5000 500) ≡ after [] 5000)
-    × (called (after [] 5000) (at 6000 500) ≡ after (6000 ∷ []) 6000)
-    × (called (after (6000 ∷ []) 6000) (at 7000 500) ≡ after (7000 ∷ 6000 ∷ []) 7000)
-    × (called (after (7000 ∷ 6000 ∷ []) 7000) (at 8000 500) ≡ after (8000 ∷ 7000 ∷ 6000 ∷ []) 8000)
-unfolding after
-steps = (refl, refl, refl, refl)
-
-run_of_four : run (opened []) (at 5000 500 ∷ at 6000 500 ∷ at 7000 500 ∷ at 8000 500 ∷ []) ≡ after (8000 ∷ 7000 ∷ 6000 ∷ []) 8000
-run_of_four =
-    ap (λ k. run k (at 6000 500 ∷ at 7000 500 ∷ at 8000 500 ∷ [])) steps.0
-    ∙ (ap (λ k. run k (at 7000 500 ∷ at 8000 500 ∷ [])) steps.1
-    ∙ (ap (λ k. run k (at 8000 500 ∷ [])) steps.2 ∙ steps.3))
-
-pub marked : (m : Case) → worked m ≡ paper m
-unfolding worked paper after
-marked M1 = refl
-marked M2 = refl
-marked M3 = refl
-marked M4 = refl
-marked M5 = refl
-marked M6 = refl
-marked M7 = refl
-marked M8 = refl
-marked M9 = refl
-marked M10 = ap (λ k. number k.receive.nxt.0 ∷ ranges (ranges_of k.receive.held) ∷ []) run_of_four
-marked M11 = refl
-marked M12 = refl
