@@ -19,8 +19,7 @@ ghost use Rattle.connection.specs.Record.{Sound};
 use input::Input;
 use state::State;
 use std::io;
-use std::io::{BufReader, Read};
-use text::Text;
+use std::io::Read;
 
 // The state after a turn, and whether another turn follows.
 #[derive(Clone, Copy)]
@@ -30,23 +29,17 @@ struct Turn {
 }
 
 fn main(rt: HostRuntime) -> io::Result<()> {
-    let mut script = BufReader::new(rt.alloc(), rt.stdin())?;
-    let mut out = text::new(rt.alloc());
+    let mut script = rt.stdin();
     let mut body = body::space();
-    play(&rt, &mut script, &mut out, &mut body)
+    play(&rt, &mut script, &mut body)
 }
 
 // A proved loop has to end, so it counts down from a number that no script uses up.
-fn play(
-    rt: &impl Print,
-    script: &mut impl Read,
-    out: &mut Text,
-    body: &mut [u8],
-) -> io::Result<()> {
+fn play(rt: &impl Print, script: &mut impl Read, body: &mut [u8]) -> io::Result<()> {
     let mut state = state::new();
     let mut turns = u64::MAX;
     while 0 < turns {
-        let turn = play_one(rt, script, out, state, body)?;
+        let turn = play_one(rt, script, state, body)?;
         if !turn.more {
             return Ok(());
         }
@@ -60,7 +53,6 @@ fn play(
 fn play_one(
     rt: &impl Print,
     script: &mut impl Read,
-    out: &mut Text,
     state: State,
     body: &mut [u8],
 ) -> io::Result<Turn>
@@ -71,11 +63,10 @@ fn play_one(
     match input {
         Input::End => Ok(last(state)),
         Input::Bad => {
-            text::word(out, b"bad\n");
-            text::write(out, rt)?;
+            text::word(rt, b"bad\n")?;
             Ok(last(state))
         }
-        Input::Call(call, length) => play_call(rt, out, state, call, body::first(body, length)),
+        Input::Call(call, length) => play_call(rt, state, call, body::first(body, length)),
     }
 }
 
@@ -86,36 +77,29 @@ fn last(state: State) -> Turn
     Turn { state, more: false }
 }
 
-// Makes a call, and writes its answer with the end of its last line.
-fn play_call(
-    rt: &impl Print,
-    out: &mut Text,
-    state: State,
-    call: u8,
-    body: &[u8],
-) -> io::Result<Turn>
+// Makes a call, and ends the last line of its answer.
+fn play_call(rt: &impl Print, state: State, call: u8, body: &[u8]) -> io::Result<Turn>
     requires { Sound state.connection }
     ensures { IfOk result (λ t. Sound t.state.connection) }
 {
-    let state = answer(out, state, call, body);
-    text::newline(out);
-    text::write(out, rt)?;
+    let state = answer(rt, state, call, body)?;
+    text::newline(rt)?;
     Ok(Turn { state, more: true })
 }
 
-// Makes a call, and puts down its answer.
-fn answer(out: &mut Text, state: State, call: u8, body: &[u8]) -> State
+// Makes a call, and writes its answer.
+fn answer(rt: &impl Print, state: State, call: u8, body: &[u8]) -> io::Result<State>
     requires { Sound state.connection }
-    ensures { Sound result.connection }
+    ensures { IfOk result (λ s. Sound s.connection) }
 {
     match call {
-        4 => record_calls::open(out, state, body),
-        5..=9 => record_calls::answer(out, state, call, body),
-        10..=12 => timer_calls::answer(out, state, call, body),
-        19 => record_calls::open_under_profile(out, state, body),
+        4 => record_calls::open(rt, state, body),
+        5..=9 => record_calls::answer(rt, state, call, body),
+        10..=12 => timer_calls::answer(rt, state, call, body),
+        19 => record_calls::open_under_profile(rt, state, body),
         _ => {
-            queries::answer(out, call, body);
-            state
+            queries::answer(rt, call, body)?;
+            Ok(state)
         }
     }
 }

@@ -1,60 +1,60 @@
 // Calls without a state: reading a segment, finding an option, the distance, and the functions for C.
-use crate::text::Text;
 use crate::{body, place_or_count, state_lines, text};
 use offers::Scale;
 use segment::{Flags, Mss, Options, Reading, Segment, Timestamps};
 use serial::Seq;
+use std::io;
 
 // Makes the call, and writes its answer.
-pub fn answer(out: &mut Text, call: u8, body: &[u8]) {
+pub fn answer(rt: &impl Print, call: u8, body: &[u8]) -> io::Result<()> {
     match call {
-        1 => read(out, body),
-        2 => find(out, body),
-        3 => distance(out, body),
-        13 => refusal(out, body),
-        14 => distance_for_c(out, body),
-        _ => milliseconds(out, body),
+        1 => read(rt, body),
+        2 => find(rt, body),
+        3 => distance(rt, body),
+        13 => refusal(rt, body),
+        14 => distance_for_c(rt, body),
+        _ => milliseconds(rt, body),
     }
 }
 
-fn read(out: &mut Text, segment: &[u8]) {
+fn read(rt: &impl Print, segment: &[u8]) -> io::Result<()> {
     let reading = segment::read(segment);
-    text::start(out, b"read", reading.number());
+    text::start(rt, b"read", reading.number())?;
     match reading {
         Reading::Refused(why, steps) => {
-            place_or_count::place(out, why);
-            text::long(out, steps as u64);
+            place_or_count::place(rt, why)?;
+            text::long(rt, steps as u64)
         }
         Reading::Segment(whole, steps) => {
-            fields(out, whole);
-            text::long(out, steps as u64);
+            fields(rt, whole)?;
+            text::long(rt, steps as u64)
         }
     }
 }
 
-fn fields(out: &mut Text, s: Segment) {
-    header_numbers(out, s);
-    option_values(out, s.options);
+fn fields(rt: &impl Print, s: Segment) -> io::Result<()> {
+    header_numbers(rt, s)?;
+    option_values(rt, s.options)?;
     let payload = s.payload;
-    text::long(out, payload.start as u64);
-    text::number(out, payload.length);
-    place_or_count::skipped(out, s.skipped);
+    text::long(rt, payload.start as u64)?;
+    text::number(rt, payload.length)?;
+    place_or_count::skipped(rt, s.skipped)
 }
 
-fn header_numbers(out: &mut Text, s: Segment) {
+fn header_numbers(rt: &impl Print, s: Segment) -> io::Result<()> {
     text::four(
-        out,
+        rt,
         text::from_u16(s.source),
         text::from_u16(s.destination),
         s.seq.0,
         s.ack.0,
-    );
+    )?;
     text::three(
-        out,
+        rt,
         flags_octet(s.flags),
         text::from_u16(s.window),
         text::from_u16(s.urgent),
-    );
+    )
 }
 
 // The flags as octet 13 has them.
@@ -67,78 +67,78 @@ fn flags_octet(f: Flags) -> u32 {
     16 * high + low
 }
 
-fn option_values(out: &mut Text, options: Options) {
+fn option_values(rt: &impl Print, options: Options) -> io::Result<()> {
     let mss = options.mss;
     let scale = options.scale;
     let timestamps = options.timestamps;
     let reported = options.blocks;
-    mss_value(out, mss);
-    scale_value(out, scale);
-    text::flag(out, options.permitted);
-    timestamp_values(out, timestamps);
-    state_lines::blocks(out, reported)
+    mss_value(rt, mss)?;
+    scale_value(rt, scale)?;
+    text::flag(rt, options.permitted)?;
+    timestamp_values(rt, timestamps)?;
+    state_lines::blocks(rt, reported)
 }
 
-fn mss_value(out: &mut Text, mss: Mss) {
+fn mss_value(rt: &impl Print, mss: Mss) -> io::Result<()> {
     match mss {
-        Mss::Absent => text::absent(out),
-        Mss::Octets(n) => text::number(out, text::from_u16(n)),
+        Mss::Absent => text::absent(rt),
+        Mss::Octets(n) => text::number(rt, text::from_u16(n)),
     }
 }
 
-fn scale_value(out: &mut Text, scale: Scale) {
+fn scale_value(rt: &impl Print, scale: Scale) -> io::Result<()> {
     match scale {
-        Scale::Absent => text::absent(out),
-        Scale::Shift(shift) => text::number(out, text::from_u8(shift)),
+        Scale::Absent => text::absent(rt),
+        Scale::Shift(shift) => text::number(rt, text::from_u8(shift)),
     }
 }
 
 // TSval and TSecr.
-fn timestamp_values(out: &mut Text, timestamps: Timestamps) {
+fn timestamp_values(rt: &impl Print, timestamps: Timestamps) -> io::Result<()> {
     match timestamps {
         Timestamps::Absent => {
-            text::absent(out);
-            text::absent(out);
+            text::absent(rt)?;
+            text::absent(rt)
         }
-        Timestamps::Pair(value, echoed) => text::two(out, value.0, echoed.0),
+        Timestamps::Pair(value, echoed) => text::two(rt, value.0, echoed.0),
     }
 }
 
-fn find(out: &mut Text, body: &[u8]) {
+fn find(rt: &impl Print, body: &[u8]) -> io::Result<()> {
     let count = octets::read_u8(body, 0) as usize;
     let lists = body::rest(body, 1);
     let kinds = body::first(lists, count);
     let found = segment::find_option(body::rest(lists, count), kinds);
-    text::word(out, b"find");
-    text::octets(out, found);
+    text::word(rt, b"find")?;
+    text::octets(rt, found)
 }
 
-fn distance(out: &mut Text, body: &[u8]) {
+fn distance(rt: &impl Print, body: &[u8]) -> io::Result<()> {
     let from = Seq(octets::read_u32(body, 0));
     let to = Seq(octets::read_u32(body, 4));
-    distance_line(out, from.distance(to));
+    distance_line(rt, from.distance(to))
 }
 
-fn distance_for_c(out: &mut Text, body: &[u8]) {
+fn distance_for_c(rt: &impl Print, body: &[u8]) -> io::Result<()> {
     let from = octets::read_u32(body, 0);
     let to = octets::read_u32(body, 4);
-    distance_line(out, gateway::noppalerk_distance(from, to));
+    distance_line(rt, gateway::noppalerk_distance(from, to))
 }
 
-fn distance_line(out: &mut Text, distance: i32) {
-    text::word(out, b"distance");
-    text::signed(out, distance);
+fn distance_line(rt: &impl Print, distance: i32) -> io::Result<()> {
+    text::word(rt, b"distance")?;
+    text::signed(rt, distance)
 }
 
-fn refusal(out: &mut Text, segment: &[u8]) {
-    text::word(out, b"refusal");
-    text::number(out, gateway::noppalerk_refusal(segment));
+fn refusal(rt: &impl Print, segment: &[u8]) -> io::Result<()> {
+    text::word(rt, b"refusal")?;
+    text::number(rt, gateway::noppalerk_refusal(segment))
 }
 
-fn milliseconds(out: &mut Text, body: &[u8]) {
+fn milliseconds(rt: &impl Print, body: &[u8]) -> io::Result<()> {
     let srtt = body::read_u64(body);
     let rttvar = body::read_u64(body::rest(body, 8));
     let ms = gateway::noppalerk_milliseconds(srtt, rttvar);
-    text::word(out, b"milliseconds");
-    text::number(out, ms);
+    text::word(rt, b"milliseconds")?;
+    text::number(rt, ms)
 }

@@ -1,106 +1,80 @@
-// The text of an answer, kept until it is written to standard output: the words of a line, and its fields, each with a space before it.
+// Text written to standard output: the words of a line, and its fields, each with a space before it.
 ghost use Rattle.std.specs.Prelude.{◌≡◌, ◌≤◌, length};
 
 use crate::{body, letters};
 use itoa::Buffer;
-use std::alloc::{AllocError, Global};
 use std::io;
 
-#[derive(Drop)]
-pub struct Text {
-    letters: Vec<u8>,
-    // Whether there was no memory for some of it.
-    cut: Option<AllocError>,
-}
-
-pub fn new(alloc: Global) -> Text {
-    Text {
-        letters: Vec::new(alloc),
-        cut: None,
-    }
-}
-
-// Writes all of it, and leaves nothing.
-pub fn write(out: &mut Text, rt: &impl Print) -> io::Result<()> {
-    if let Some(cut) = out.cut {
-        return Err(io::Error::from(cut));
-    }
-    rt.write_all(out.letters.as_slice())?;
-    out.letters.clear();
-    Ok(())
-}
-
 // Letters as they stand.
-pub fn word(out: &mut Text, letters: &[u8]) {
-    if let Err(cut) = out.letters.extend_from_slice(letters) {
-        out.cut = Some(cut);
-    }
+pub fn word(rt: &impl Print, letters: &[u8]) -> io::Result<()> {
+    rt.write_all(letters)
 }
 
-pub fn newline(out: &mut Text) {
-    word(out, b"\n");
+pub fn newline(rt: &impl Print) -> io::Result<()> {
+    word(rt, b"\n")
 }
 
 // The first word of a line, and the number after it.
-pub fn start(out: &mut Text, first: &[u8], n: u8) {
-    word(out, first);
-    number(out, from_u8(n));
+pub fn start(rt: &impl Print, first: &[u8], n: u8) -> io::Result<()> {
+    word(rt, first)?;
+    number(rt, from_u8(n))
 }
 
-pub fn number(out: &mut Text, n: u32) {
-    long(out, from_u32(n));
+pub fn number(rt: &impl Print, n: u32) -> io::Result<()> {
+    long(rt, from_u32(n))
 }
 
-pub fn long(out: &mut Text, n: u64) {
+pub fn long(rt: &impl Print, n: u64) -> io::Result<()> {
     let mut line = [0u8; 24];
     let end = letters::number(&mut line, 0, n);
-    word(out, body::first(&line, end));
+    word(rt, body::first(&line, end))
 }
 
-pub fn two(out: &mut Text, a: u32, b: u32) {
-    number(out, a);
-    number(out, b);
+// Several numbers at once: each write is a call of the system.
+pub fn two(rt: &impl Print, a: u32, b: u32) -> io::Result<()> {
+    let mut line = [0u8; 48];
+    let end = letters::number(&mut line, 0, from_u32(a));
+    let end = letters::number(&mut line, end, from_u32(b));
+    word(rt, body::first(&line, end))
 }
 
-pub fn three(out: &mut Text, a: u32, b: u32, c: u32) {
-    two(out, a, b);
-    number(out, c);
+pub fn three(rt: &impl Print, a: u32, b: u32, c: u32) -> io::Result<()> {
+    two(rt, a, b)?;
+    number(rt, c)
 }
 
-pub fn four(out: &mut Text, a: u32, b: u32, c: u32, d: u32) {
-    two(out, a, b);
-    two(out, c, d);
+pub fn four(rt: &impl Print, a: u32, b: u32, c: u32, d: u32) -> io::Result<()> {
+    two(rt, a, b)?;
+    two(rt, c, d)
 }
 
-pub fn flag(out: &mut Text, set: bool) {
-    number(out, bit(set));
+pub fn flag(rt: &impl Print, set: bool) -> io::Result<()> {
+    number(rt, bit(set))
 }
 
 // A number that may be negative.
-pub fn signed(out: &mut Text, n: i32) {
+pub fn signed(rt: &impl Print, n: i32) -> io::Result<()> {
     if n < 0 {
-        word(out, b" -");
-        digits(out, magnitude(n));
-        return;
+        word(rt, b" -")?;
+        return digits(rt, magnitude(n));
     }
-    long(out, magnitude(n));
+    long(rt, magnitude(n))
 }
 
 // What is absent.
-pub fn absent(out: &mut Text) {
-    word(out, b" -");
+pub fn absent(rt: &impl Print) -> io::Result<()> {
+    word(rt, b" -")
 }
 
 // Octets in hexadecimal, run together.
-pub fn octets(out: &mut Text, octets: &[u8]) {
+pub fn octets(rt: &impl Print, octets: &[u8]) -> io::Result<()> {
     if octets.len() == 0 {
-        absent(out);
-        return;
+        return absent(rt);
     }
     let mut line = space();
     let end = letters::octets(&mut line, octets);
-    word(out, b" ");
-    word(out, body::first(&line, end));
+    word(rt, b" ")?;
+    word(rt, body::first(&line, end))
 }
 
 // 1 for what is set, 0 for what is not.
@@ -123,9 +97,9 @@ fn from_u32(n: u32) -> u64 {
     n as u64
 }
 
-fn digits(out: &mut Text, n: u64) {
+fn digits(rt: &impl Print, n: u64) -> io::Result<()> {
     let mut line = Buffer::new();
-    word(out, line.format(n).as_bytes());
+    word(rt, line.format(n).as_bytes())
 }
 
 // A number without its sign; -2^31 is turned round by way of -1 - n, which an i32 holds.
