@@ -200,8 +200,8 @@ module _
       high : r.nxt + o < p.start + p.len
       below : r.nxt + o < r.edge
 
-    lies_in : (o : ℕ) → lies_in new o ≡ true → Lies o
-    lies_in o t =
+    lies_in_lem : (o : ℕ) → lies_in new o ≡ true → Lies o
+    lies_in_lem o t =
         let tests = both_true (leb new.from o) (ltb o new.to) t in
         let g = in_place o (leb-true _ _ tests.0) (ltb-true _ _ tests.1) in
         let low : p.start ≤ r.nxt + o = omega (arith, g.true_number) in
@@ -230,7 +230,7 @@ module _
       where
         pick : (is_received nxt side x ≡ true) ⊎ (lies_in new (offset_of nxt x) ≡ true) → (is_held side x ≡ true) ⊎ Lies (offset_of nxt x)
         pick (inl h) = inl (rw (offset_self nxt, le-ltb (offset_of nxt x) 0 (omega arith)) at h)
-        pick (inr h) = inr (lies_in (offset_of nxt x) h)
+        pick (inr h) = inr (lies_in_lem (offset_of nxt x) h)
 
     received_below : (x : ℕ) → is_received nxt next x ≡ true → r.nxt + offset_of nxt x < r.edge
     received_below x t = pick (received x t)
