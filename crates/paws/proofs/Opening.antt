@@ -28,7 +28,7 @@ use Rattle.paws.proofs.Invariant.{Holds}
 syn_filled : {history : List Sent} (way : Way) (own : Setup) (clock : ℕ) (i : Incoming) (b : Brings history i)
     → (opened_under way own clock i).number ≡ 0 → SynCounts i b.sent → 1 ≤ b.sent.len
 syn_filled way own clock (unread octets) b opens counts = rw b.len at (syn_counts_by_way way own clock octets b.fields b.reads opens)
-syn_filled way own clock (read s) b opens counts = counts
+syn_filled way own clock (read s) b opens counts = omega arith
 
 module _ {history : List Sent} (o : Opening history) (counts : SynCounts o.segment o.syn.sent) where
   abbrev syn : Segment

@@ -160,7 +160,7 @@ module _
     -- a place in the new part
     pub in_place : (o : ℕ) → new.from ≤ o → o < new.to → InPlace r s.seq.0 p o
     unfolding octet_at
-    in_place o from to = record { within = inside; true_number = number }
+    in_place o from to = record { within = inside; true_number = omega (arith, number) }
       where
         x : ℕ
         x = moved_by nxt o
