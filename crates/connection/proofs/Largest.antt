@@ -13,7 +13,8 @@ use Rattle.connection.specs.Taking.{record_after}
 use Rattle.connection.specs.Operations.{acknowledged, expired, sent, window_opened}
 use Rattle.connection.specs.Calls.{Call, Opened, acknowledgment, arrival, called, expiry, records_after, run, sending, window}
 use Rattle.connection.specs.Demand.{LargestWindow}
-use Rattle.connection.specs.Cases.{base, base_opened, cases, rising}
+use Rattle.connection.specs.Cases.{base, cases, rising}
+use Rattle.connection.proofs.Cases.{base_opened}
 use Rattle.connection.proofs.Incoming.{arrived_cases, opened_holds}
 use Rattle.connection.proofs.Runs.{called_sound, sound_always}
 

@@ -10,6 +10,7 @@ pub mod Taken
 pub mod Changes
 pub mod Keeping
 pub mod Edge
+pub mod Cases
 pub mod Runs
 pub mod Largest
 pub mod Rfc5961

@@ -24,7 +24,8 @@ use Rattle.connection.specs.Arriving.{arriving, arriving_read, is_take, judged, 
 use Rattle.connection.specs.Operations.{acknowledged, expired, sent, window_opened}
 use Rattle.connection.specs.Calls.{Call, Incoming, Opened, Way, acknowledgment, arrival, arrived, called, expiry, read, run, sending, timer_call, timer_calls, unread, window}
 use Rattle.connection.specs.Demand.{Demand3, SoundAlways, TimerFollows}
-use Rattle.connection.specs.Cases.{sender, sender_opened, timed, timed_feeds}
+use Rattle.connection.specs.Cases.{sender, sender_opened, timed}
+use Rattle.connection.proofs.Cases.{timed_feeds}
 use Rattle.connection.proofs.Incoming.{opened_holds}
 use Rattle.connection.proofs.Keeping.{acknowledged_sound, arrived_sound, blank_sound, expired_sound, record_sound, sent_sound, window_sound}
 

@@ -41,7 +41,7 @@ abbrev pub stamps : ℕ → ℕ → List ℕ
 stamps value echoed = 1 ∷ 1 ∷ 8 ∷ 10 ∷ (big_endian 4 value ++ big_endian 4 echoed)
 
 -- timestamps offered; our timestamp is the clock and 7 more. Given is the first window.
-abbrev own : ℕ → Setup
+abbrev pub own : ℕ → Setup
 own window = record {
   iss = record { 0 = 1000 };
   offers = record { scale = Scale.Absent; timestamps = true; sack = false };
@@ -171,12 +171,5 @@ unfolding arrivals numbers distance_of offset_of big_endian number_at exceed_lim
     window_opened first_lack under_profile profile_opening Option-elim
 cases = (refl, refl, refl, refl, refl, refl, refl, refl)
 
-pub base_opened : Opened base
-base_opened = record { way = plain; own = own 65535; clock = 100; syn = unread (octets 4999 0 2 9 (stamps 50 0) 0); opens = cases.2 }
-
 pub sender_opened : (way : Way) → Opened (sender way)
 sender_opened way = record { way = way; own = own 65535; clock = 100; syn = offering 600; opens = refl }
-
-pub timed_feeds : (way : Way) → timer_calls (sender way) timed ≡ rto.sample 57 3 ∷ []
-timed_feeds plain = cases.4
-timed_feeds profile = cases.5

@@ -1,8 +1,6 @@
 -- One fact for each test passed, then the row that decides.
 -- Assumes nothing.
-use mathlib.Core.Bool.{false}
-use mathlib.Core.Path.{◌≡◌, sym, ◌∙◌}
-use Rattle.send.specs.Send.{is_too_old, is_unsent}
+use mathlib.Core.Path.{sym, ◌∙◌}
 use Rattle.connection.specs.Verdict.{rows}
 use Rattle.connection.proofs.judging.judge_plain.Goals as goal
 
@@ -12,14 +10,16 @@ returns-then-is_unsent c clock = rw (sym c.is_unsent.ensures ∙ c.if-is_unsent.
 
 pub returns-then-is_too_old : goal.returns-then-is_too_old
 unfolding rows
-returns-then-is_too_old c clock = rw ((let sent_at : let a = c.args in is_unsent a.k.send a.s.ack.0 ≡ false = sym c.is_unsent.ensures ∙ c.if-is_unsent.false in sent_at), sym c.is_too_old.ensures ∙ c.if-is_too_old.true)
+returns-then-is_too_old c clock = rw (sym c.is_unsent.ensures ∙ c.if-is_unsent.false, sym c.is_too_old.ensures ∙ c.if-is_too_old.true)
 
 pub returns-then-lacks_room : goal.returns-then-lacks_room
 unfolding rows
 returns-then-lacks_room c clock =
-    rw ((let sent_at : let a = c.args in is_unsent a.k.send a.s.ack.0 ≡ false = sym c.is_unsent.ensures ∙ c.if-is_unsent.false in sent_at), (let recent_at : let a = c.args in is_too_old a.k.send a.s.ack.0 ≡ false = sym c.is_too_old.ensures ∙ c.if-is_too_old.false in recent_at), sym c.lacks_room.ensures ∙ c.if-lacks_room.true)
+    let sent = sym c.is_unsent.ensures ∙ c.if-is_unsent.false in
+    rw (sent, sym c.is_too_old.ensures ∙ c.if-is_too_old.false, sym c.lacks_room.ensures ∙ c.if-lacks_room.true)
 
 pub returns : goal.returns
 unfolding rows
 returns c clock =
-    rw ((let sent_at : let a = c.args in is_unsent a.k.send a.s.ack.0 ≡ false = sym c.is_unsent.ensures ∙ c.if-is_unsent.false in sent_at), (let recent_at : let a = c.args in is_too_old a.k.send a.s.ack.0 ≡ false = sym c.is_too_old.ensures ∙ c.if-is_too_old.false in recent_at), sym c.lacks_room.ensures ∙ c.if-lacks_room.false)
+    let sent = sym c.is_unsent.ensures ∙ c.if-is_unsent.false in
+    rw (sent, sym c.is_too_old.ensures ∙ c.if-is_too_old.false, sym c.lacks_room.ensures ∙ c.if-lacks_room.false)

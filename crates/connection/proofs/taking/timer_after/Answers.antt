@@ -18,6 +18,4 @@ returns-then-is_new c =
 
 pub returns : goal.returns
 unfolding fed_by
-returns c =
-    let active = not-false c.args.k.timestamping.active c.if-not-timestamping.false in
-    rw (sym c.is_new.ensures ∙ c.if-is_new.false, active)
+returns c = rw (sym c.is_new.ensures ∙ c.if-is_new.false, not-false c.args.k.timestamping.active c.if-not-timestamping.false)
