@@ -16,7 +16,7 @@ pub fn noppalerk_refusal(segment: &[u8]) -> u32
     segment::read(segment).number() as u32
 }
 
-// The distance from one serial number to another; in C both kinds are plain numbers.
+// The distance from one serial number to another; both kinds are plain numbers here.
 pub fn noppalerk_distance(from: u32, to: u32) -> i32
     ensures { result ≡ distance_of from to }
 {
