@@ -2,7 +2,7 @@
  * Noppalerk for C: a segment's refusal number, the distance of two serial numbers, and the retransmission timer from S and V.
  *
  * Each call takes any octets and any numbers, and needs no check by its caller. None keeps state, allocates or writes to memory
- * of the caller's, so any thread may call them at any time. Link with libgateway.a, which `rt staticlib gateway` writes.
+ * of the caller's, so any thread may call them at any time. Link with libgateway.a, which `bash gateway/run` writes.
  */
 #ifndef NOPPALERK_H
 #define NOPPALERK_H
