@@ -11,16 +11,16 @@ use lib.Dec.{ltb}
 use borrow.Author.Tests.{lt-ltb, ltb-true}
 use Rattle.offers.specs.Offers.{exceed_limits, in_force, is_large, shifts_in_force}
 use Rattle.offers.specs.declared.Offers.{Offers}
-use Rattle.offers.specs.declared.Scale.{Scale}
+use Rattle.std.specs.Prelude.{Option, Some, None}
 
 -- a shift above 14 is offered
-abbrev pub Above14 : Scale → Type 0
-Above14 Scale.Absent = ⊥
-Above14 (Scale.Shift n) = 14 < n
+abbrev pub Above14 : Option ℕ → Type 0
+Above14 None = ⊥
+Above14 (Some n) = 14 < n
 
-above_exactly : (scale : Scale) → is_large scale ≡ true ↔ Above14 scale
-above_exactly Scale.Absent = (false≢true, λ none. absurd none)
-above_exactly (Scale.Shift n) = (ltb-true 14 n, lt-ltb 14 n)
+above_exactly : (scale : Option ℕ) → is_large scale ≡ true ↔ Above14 scale
+above_exactly None = (false≢true, λ none. absurd none)
+above_exactly (Some n) = (ltb-true 14 n, lt-ltb 14 n)
 
 module _ (own : Offers) (window : ℕ) where
   -- E9: own shift above 14, or first receive window above 65,535
@@ -33,11 +33,11 @@ module _ (own : Offers) (window : ℕ) where
   within : exceed_limits own window ≡ false → ¬ (Above14 own.scale ∨₁ (65535 < window))
   within e over = true≢false (sym (exceed_exactly.1 over) ∙ e)
 
-most : (own peer : Scale) → ¬ Above14 own → ((shifts_in_force own peer).receive ≤ 14) × ((shifts_in_force own peer).send ≤ 14)
+most : (own peer : Option ℕ) → ¬ Above14 own → ((shifts_in_force own peer).receive ≤ 14) × ((shifts_in_force own peer).send ≤ 14)
 unfolding shifts_in_force
-most Scale.Absent peer small = (omega arith, omega arith)
-most (Scale.Shift n) Scale.Absent small = (omega arith, omega arith)
-most (Scale.Shift n) (Scale.Shift m) small = (omega arith, omega arith)
+most None peer small = (omega arith, omega arith)
+most (Some n) None small = (omega arith, omega arith)
+most (Some n) (Some m) small = (omega arith, omega arith)
 
 pub shifts_most : (own peer : Offers) (window : ℕ) → exceed_limits own window ≡ false
     → ((in_force own peer).shifts.receive ≤ 14) × ((in_force own peer).shifts.send ≤ 14)

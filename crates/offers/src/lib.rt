@@ -2,7 +2,7 @@
 
 #![tactic(auto)]
 
-ghost use Rattle.std.specs.Prelude.{◌≡◌, ◌&&◌, min};
+ghost use Rattle.std.specs.Prelude.{◌≡◌};
 ghost use Rattle.offers.specs.Offers.{exceed_limits, in_force, is_large, shifts_in_force};
 
 // The greatest shift of a window.
@@ -11,28 +11,22 @@ const MAX_SHIFT: u8 = 14;
 // The greatest window of an opening segment, which is not scaled.
 const MAX_FIRST_WINDOW: u32 = 65_535;
 
-// The window scale that a side offers, or none; a shift above 14 too.
-#[derive(Clone, Copy)]
-pub enum Scale {
-    Absent,
-    Shift(u8),
-}
-
-#[derive(Clone, Copy)]
+#[derive(Clone, Copy, PartialEq, Eq)]
 pub struct Offers {
-    pub scale: Scale,
+    // The shift of the window scale that is offered, if any; a shift above 14 too.
+    pub scale: Option<u8>,
     pub timestamps: bool,
     pub sack: bool,
 }
 
 // The shifts of both windows: ours for the receive window, the peer's for the send window.
-#[derive(Clone, Copy)]
+#[derive(Clone, Copy, PartialEq, Eq)]
 pub struct Shifts {
     pub receive: u8,
     pub send: u8,
 }
 
-#[derive(Clone, Copy)]
+#[derive(Clone, Copy, PartialEq, Eq)]
 pub struct InForce {
     // 0 and 0 where scaling is not in force.
     pub shifts: Shifts,
@@ -42,71 +36,44 @@ pub struct InForce {
 
 impl Offers {
     // Whether these, as our own offers, or the first receive window beside them exceed their limits: E9.
+    #[tactic(auto, unfolding(crate::specs::Offers::exceed_limits))]
     pub fn exceed_limits(self, window: u32) -> bool
         ensures { result ≡ exceed_limits self window }
     {
-        let scale = self.scale;
-        if is_large(scale) {
-            return true;
-        }
-        MAX_FIRST_WINDOW < window
+        is_large(self.scale) || MAX_FIRST_WINDOW < window
     }
 
     // What is in force when these are our own offers.
+    #[tactic(auto, unfolding(crate::specs::Offers::in_force))]
     pub fn in_force(self, peer: Offers) -> InForce
         ensures { result ≡ in_force self peer }
     {
-        let own_scale = self.scale;
-        let peer_scale = peer.scale;
-        let shifts = shifts_in_force(own_scale, peer_scale);
-        let timestamps = both(self.timestamps, peer.timestamps);
-        let sack = both(self.sack, peer.sack);
         InForce {
-            shifts,
-            timestamps,
-            sack,
+            shifts: shifts_in_force(self.scale, peer.scale),
+            timestamps: self.timestamps && peer.timestamps,
+            sack: self.sack && peer.sack,
         }
     }
 }
 
-fn is_large(scale: Scale) -> bool
+fn is_large(scale: Option<u8>) -> bool
     ensures { result ≡ is_large scale }
 {
-    match scale {
-        Scale::Absent => false,
-        Scale::Shift(shift) => MAX_SHIFT < shift,
-    }
+    scale.is_some_and(|shift| MAX_SHIFT < shift)
 }
 
-fn shifts_in_force(own: Scale, peer: Scale) -> Shifts
+#[tactic(auto, unfolding(crate::specs::Offers::shifts_in_force))]
+fn shifts_in_force(own: Option<u8>, peer: Option<u8>) -> Shifts
     ensures { result ≡ shifts_in_force own peer }
 {
-    match own {
-        Scale::Absent => Shifts {
+    match (own, peer) {
+        (Some(receive), Some(offered)) => Shifts {
+            receive,
+            send: offered.min(MAX_SHIFT),
+        },
+        _ => Shifts {
             receive: 0,
             send: 0,
         },
-        Scale::Shift(receive) => match peer {
-            Scale::Absent => Shifts {
-                receive: 0,
-                send: 0,
-            },
-            Scale::Shift(offered) => {
-                let send = at_most_14(offered);
-                Shifts { receive, send }
-            }
-        },
     }
-}
-
-fn at_most_14(shift: u8) -> u8
-    ensures { result ≡ min shift 14 }
-{
-    if shift < MAX_SHIFT { shift } else { MAX_SHIFT }
-}
-
-fn both(a: bool, b: bool) -> bool
-    ensures { result ≡ a && b }
-{
-    if a { b } else { false }
 }
