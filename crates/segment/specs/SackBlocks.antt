@@ -1,5 +1,5 @@
 -- The blocks of a SACK option as a list, of their array and its length.
-use Rattle.std.specs.Prelude.{ℕ, ◌-◌, ◌≤◌, List, ◌++◌, ◌≡◌, length, replicate, take}
+use Rattle.std.specs.Prelude.{◌-◌, ◌≤◌, List, ◌++◌, ◌≡◌, length, replicate, take}
 use Rattle.std.proofs.Common.{sym}
 use Rattle.serial.specs.Serial.{range}
 use Rattle.serial.specs.declared.Range.{Range}

@@ -16,9 +16,8 @@ ghost use Rattle.segment.specs.Reading.{found_option, number_of, number_positive
 
 use octets::read_u8;
 use refusals::Numbered;
-use serial::{Seq, Stamp};
-
 pub use sack_blocks::SackBlocks;
+use serial::{Seq, Stamp};
 
 // The least octets of a segment: the header without options.
 const FIXED_HEADER: usize = 20;
@@ -163,13 +162,25 @@ pub fn read(segment: &[u8]) -> Reading
     let place = read_u8(&notes, notes::LAST);
     match number {
         // Returned at once, so that the fields of a segment are stored as they are read.
-        4 => return Reading { outcome: Err(Refusal::BrokenOption(place)), steps },
-        5 => return Reading { outcome: Err(Refusal::WrongOptionLength(place)), steps },
-        6 => return Reading { outcome: Err(Refusal::RepeatedOption(place)), steps },
+        4 => return Reading {
+            outcome: Err(Refusal::BrokenOption(place)),
+            steps,
+        },
+        5 => return Reading {
+            outcome: Err(Refusal::WrongOptionLength(place)),
+            steps,
+        },
+        6 => return Reading {
+            outcome: Err(Refusal::RepeatedOption(place)),
+            steps,
+        },
         _ => {
             let options = values::options(segment, &notes);
             let skipped = read_u8(&notes, notes::SKIPPED) as usize;
-            Reading { outcome: Ok(fixed_header::fields(segment, end, skipped, options)), steps }
+            Reading {
+                outcome: Ok(fixed_header::fields(segment, end, skipped, options)),
+                steps,
+            }
         }
     }
 }

@@ -4,10 +4,10 @@ ghost use Rattle.segment.specs.Grammar.{Step};
 ghost use Rattle.segment.specs.Options.{Found, block_at, blocks_of, mss_of, options_of, scale_of, timestamps_of};
 ghost use Rattle.segment.specs.Internal.{Noted, StandAll, StandsIf, place_of};
 
-use super::notes::place_of;
 use super::kinds::Kind;
+use super::notes::place_of;
 use super::{Options, SackBlocks, Timestamps};
-use octets::{read_u8, read_u16, read_u32};
+use octets::{Number, read_u8};
 use serial::{Range, Seq, Stamp};
 
 // The values of the options whose places are noted.
@@ -33,7 +33,7 @@ fn mss(segment: &[u8], place: u8) -> Option<u16>
     if place == 0 {
         return None;
     }
-    Some(read_u16(segment, place as usize + 2))
+    Some(u16::read(segment, place as usize + 2))
 }
 
 fn scale(segment: &[u8], place: u8) -> Option<u8>
@@ -51,8 +51,8 @@ fn timestamps(segment: &[u8], place: u8) -> Option<Timestamps>
     if place == 0 {
         return None;
     }
-    let value = Stamp(read_u32(segment, place as usize + 2));
-    let echoed = Stamp(read_u32(segment, place as usize + 6));
+    let value = Stamp(u32::read(segment, place as usize + 2));
+    let echoed = Stamp(u32::read(segment, place as usize + 6));
     Some(Timestamps { value, echoed })
 }
 
@@ -76,7 +76,7 @@ fn block(segment: &[u8], at: usize) -> Range
     requires { at ≤ 512 }
     ensures { result ≡ block_at segment.now at }
 {
-    let left = Seq(read_u32(segment, at));
-    let right = Seq(read_u32(segment, at + 4));
+    let left = Seq(u32::read(segment, at));
+    let right = Seq(u32::read(segment, at + 4));
     Range { left, right }
 }

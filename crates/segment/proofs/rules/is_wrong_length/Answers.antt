@@ -1,5 +1,6 @@
 -- Each arm is a row of the table of known kinds. Assumes nothing.
 use mathlib.Core.Bool.{Bool, false, not, ◌||◌, or-false}
+use mathlib.Core.List.{[], ◌∷◌}
 use mathlib.Core.Path.{◌≡◌, sym, ap, ◌∙◌}
 use lib.Dec.{eqb}
 use Rattle.segment.proofs.Membership.{any_stands}
@@ -23,7 +24,7 @@ returns-in-SackPermitted c = rw c.in-SackPermitted.is (one_length (eqb c.args.n 
 
 pub returns-in-Sack : goal.returns-in-Sack
 unfolding is_wrong_length stands_in lengths_of
-returns-in-Sack c = rw c.in-Sack.is (ap not (c.contains.ensures.value ∙ any_stands c.args.n _))
+returns-in-Sack c = rw c.in-Sack.is (ap not (c.contains.ensures.value ∙ any_stands c.args.n (10 ∷ 18 ∷ 26 ∷ 34 ∷ [])))
 
 pub returns-in-Timestamps : goal.returns-in-Timestamps
 unfolding is_wrong_length stands_in lengths_of

@@ -14,5 +14,5 @@ returns-then-place-eq0 c = λ f e stands.
 pub returns : goal.returns
 returns c = λ f e stands.
     let there = one_there c.args.segment.now 2 4 _ f e stands c.if-place-eq0.false in
-    let value = c.read_u16.ensures ∙ number_there there.2 2 2 (omega (arith, there.2.least)) in
+    let value = c.read.ensures ∙ number_there there.2 2 2 (omega (arith, there.2.least)) in
     ap Some value ∙ sym (ap mss_of there.1)
