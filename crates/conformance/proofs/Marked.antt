@@ -31,7 +31,7 @@ use Rattle.conformance.specs.Marked.Fact.{number, ranges}
 after : List ℕ → ℕ → Connection
 unfolding send_fields scaling segment at own opened permitted option_octets distance_of offset_of big_endian number_at Option-elim
     is_broken padding padding_rule options.fault_at options.fault_in options.is_repeated options.is_wrong_length options.lengths_of
-    options.one_to_four options.option_in options.options_of options.stands_in options_read reading segment_of exceed_limits in_force shifts_in_force
+    options.option_in options.options_of options.stands_in options_read reading segment_of exceed_limits in_force shifts_in_force
     held_of is_out_of_order joined left_of meets no_room range_of ranges_after ranges_of right_of taking.advanced taking.holding taking.taken
     receive.acceptable receive.lacks_room receive.new_part receive.opened send.opened send.is_too_old send.is_new send.acknowledged send.is_current send.is_later
     send.updates_window send.windowed send.taken is_not_syn is_wrong_ack opening opening_from record_from record_with timestamps.opened

@@ -2,26 +2,26 @@
 -- at least 536", and which of them is the first that is not met. Assumes nothing.
 use mathlib.Core.Bool.{true, not}
 use mathlib.Core.Logic.{◌↔◌}
-use mathlib.Core.Option.{Option, none, some}
+use mathlib.Core.Option as maybe
+use mathlib.Core.Option.{none, some}
 use mathlib.Core.Path.{◌≡◌, refl, subst}
 use Prim.Native.Nat.{ℕ, ◌≤◌}
 use borrow.Author.Tests.{not-false, not-true}
+use Rattle.std.specs.Prelude.{Option, None, Some, Ok, Err}
 use Rattle.laws.proofs.Choices.{either}
 use Rattle.laws.proofs.Tests.{at_most, both, fails_exactly}
-use Rattle.field_station.specs.declared.Fitness.{Fitness}
 use Rattle.field_station.specs.declared.Lack.{Lack}
 use Rattle.offers.specs.declared.Offers.{Offers}
-use Rattle.offers.specs.declared.Scale.{Scale}
 use Rattle.field_station.specs.Demands.{first_lack, is_small, lack_of, lack_value, mss_met, shifts_met, timestamps_met}
 
 -- any offered shift is at most 7
-abbrev pub Small : Scale → Type 0
-Small Scale.Absent = Unit {0}
-Small (Scale.Shift n) = n ≤ 7
+abbrev pub Small : Option ℕ → Type 0
+Small None = Unit {0}
+Small (Some n) = n ≤ 7
 
-small_exactly : (scale : Scale) → is_small scale ≡ true ↔ Small scale
-small_exactly Scale.Absent = (λ _. tt, λ _. refl)
-small_exactly (Scale.Shift n) = at_most n 7
+small_exactly : (scale : Option ℕ) → is_small scale ≡ true ↔ Small scale
+small_exactly None = (λ _. tt, λ _. refl)
+small_exactly (Some n) = at_most n 7
 
 module _ (own peer : Offers) (mss : ℕ) where
   abbrev pub FromBoth : Type 0
@@ -34,7 +34,7 @@ module _ (own peer : Offers) (mss : ℕ) where
   Meets = FromBoth × SmallShifts × (536 ≤ mss)
 
   -- the first of the three that is not met, in this order; none if all are
-  pub data FirstUnmet : Option ℕ → Type 0 where
+  pub data FirstUnmet : maybe.Option ℕ → Type 0 where
     no_timestamps : ¬ FromBoth → FirstUnmet (some 1)
     large_shift : FromBoth → ¬ SmallShifts → FirstUnmet (some 2)
     small_mss : FromBoth → SmallShifts → ¬ (536 ≤ mss) → FirstUnmet (some 3)
@@ -59,19 +59,19 @@ module _ (own peer : Offers) (mss : ℕ) where
       either FirstUnmet (not (mss_met mss)) (some 3) none (λ t. small_mss stamped small ((fails_exactly _ large_mss).0 (not-true _ t)))
       (λ t. all_met (stamped, small, large_mss.0 (not-false _ t)))))
 
-  given : (o : Option ℕ) → FirstUnmet o → first_lack own peer mss ≡ o
+  given : (o : maybe.Option ℕ) → FirstUnmet o → first_lack own peer mss ≡ o
   unfolding first_lack
   given o (no_timestamps lacks) = rw ((fails_exactly _ from_both).1 lacks)
   given o (large_shift stamped exceeds) = rw (from_both.1 stamped, (fails_exactly _ small_shifts).1 exceeds)
   given o (small_mss stamped small less) = rw (from_both.1 stamped, small_shifts.1 small, (fails_exactly _ large_mss).1 less)
   given o (all_met (stamped, small, large)) = rw (from_both.1 stamped, small_shifts.1 small, large_mss.1 large)
 
-  pub lack_exactly : (o : Option ℕ) → first_lack own peer mss ≡ o ↔ FirstUnmet o
+  pub lack_exactly : (o : maybe.Option ℕ) → first_lack own peer mss ≡ o ↔ FirstUnmet o
   lack_exactly o = (λ is. subst FirstUnmet is first, given o)
 
 -- each case holds what it says
 pub lacks_named : (lack_value Lack.Timestamps ≡ 1) × (lack_value Lack.Shift ≡ 2) × (lack_value Lack.Mss ≡ 3)
 lacks_named = (refl, refl, refl)
 
-pub fitness_holds : (lack : Lack) → (lack_of Fitness.Meets ≡ none) × (lack_of (Fitness.Lacks lack) ≡ some (lack_value lack))
+pub fitness_holds : (lack : Lack) → (lack_of (Ok tt) ≡ none) × (lack_of (Err lack) ≡ some (lack_value lack))
 fitness_holds lack = (refl, refl)

@@ -1,19 +1,18 @@
 -- What the field-station profile demands of both sides' offers and of the peer's MSS (document 02, P13).
-use Rattle.std.specs.Prelude.{Bool, true, cond, not, ◌&&◌, ℕ, leb}
-use Rattle.std.proofs.Math.Option.{Option, none, some}
-use Rattle.field_station.specs.declared.Fitness.{Fitness}
+use Rattle.std.specs.Prelude.{Bool, true, cond, not, ◌&&◌, ℕ, leb, Option, None, Some, Result, Ok, Err}
+use Rattle.std.proofs.Math.Option as maybe
+use Rattle.std.proofs.Math.Option.{none, some}
 use Rattle.field_station.specs.declared.Lack.{Lack}
 use Rattle.offers.specs.declared.Offers.{Offers}
-use Rattle.offers.specs.declared.Scale.{Scale}
 
 -- timestamps from both sides
 abbrev pub timestamps_met : Offers → Offers → Bool
 timestamps_met own peer = own.timestamps && peer.timestamps
 
 -- any offered shift at most 7, as it was offered, in force or not
-abbrev pub is_small : Scale → Bool
-is_small Scale.Absent = true
-is_small (Scale.Shift n) = leb n 7
+abbrev pub is_small : Option ℕ → Bool
+is_small None = true
+is_small (Some n) = leb n 7
 
 abbrev pub shifts_met : Offers → Offers → Bool
 shifts_met own peer = is_small own.scale && is_small peer.scale
@@ -23,7 +22,7 @@ abbrev pub mss_met : ℕ → Bool
 mss_met mss = leb 536 mss
 
 -- 1, 2 or 3 for the first of them in that order that is not met
-unfoldable pub first_lack : Offers → Offers → ℕ → Option ℕ
+unfoldable pub first_lack : Offers → Offers → ℕ → maybe.Option ℕ
 first_lack own peer mss =
     cond (not (timestamps_met own peer)) (some 1)
     (cond (not (shifts_met own peer)) (some 2)
@@ -35,6 +34,6 @@ lack_value Lack.Timestamps = 1
 lack_value Lack.Shift = 2
 lack_value Lack.Mss = 3
 
-abbrev pub lack_of : Fitness → Option ℕ
-lack_of Fitness.Meets = none
-lack_of (Fitness.Lacks lack) = some (lack_value lack)
+abbrev pub lack_of : Result Unit Lack → maybe.Option ℕ
+lack_of (Ok met) = none
+lack_of (Err lack) = some (lack_value lack)

@@ -4,9 +4,9 @@
 #![tactic(auto)]
 
 ghost use Rattle.std.specs.Prelude.{◌≡◌};
-ghost use Rattle.field_station.specs.Demands.{first_lack, is_small, lack_of, lack_value, shifts_met, timestamps_met};
+ghost use Rattle.field_station.specs.Demands.{first_lack, is_small, lack_of, lack_value};
 
-use offers::{Offers, Scale};
+use offers::Offers;
 
 // The greatest shift that either side may offer.
 const MAX_OFFERED_SHIFT: u8 = 7;
@@ -17,17 +17,9 @@ const LEAST_MSS: u16 = 536;
 // A demand that is not met.
 #[derive(Clone, Copy)]
 pub enum Lack {
-    // 1 to 3.
-    Timestamps,
-    Shift,
-    Mss,
-}
-
-#[derive(Clone, Copy)]
-pub enum Fitness {
-    Meets,
-    // The first demand that is not met.
-    Lacks(Lack),
+    Timestamps = 1,
+    Shift = 2,
+    Mss = 3,
 }
 
 impl Lack {
@@ -35,55 +27,30 @@ impl Lack {
     pub fn value(self) -> u8
         ensures { result ≡ lack_value self }
     {
-        match self {
-            Lack::Timestamps => 1,
-            Lack::Shift => 2,
-            Lack::Mss => 3,
-        }
+        self as u8
     }
 }
 
-// How both sides' offers and the peer's MSS stand to the profile.
-pub fn judge(own: Offers, peer: Offers, mss: u16) -> Fitness
+// Whether both sides' offers and the peer's MSS meet the profile, or the first demand that they do not.
+#[tactic(auto, unfolding(crate::specs::Demands::first_lack))]
+pub fn judge(own: Offers, peer: Offers, mss: u16) -> Result<(), Lack>
     ensures { lack_of result ≡ first_lack own peer mss }
 {
-    if !timestamps_met(own, peer) {
-        return Fitness::Lacks(Lack::Timestamps);
+    if !own.timestamps || !peer.timestamps {
+        return Err(Lack::Timestamps);
     }
-    if !shifts_met(own, peer) {
-        return Fitness::Lacks(Lack::Shift);
+    if !is_small(own.scale) || !is_small(peer.scale) {
+        return Err(Lack::Shift);
     }
     if mss < LEAST_MSS {
-        return Fitness::Lacks(Lack::Mss);
+        return Err(Lack::Mss);
     }
-    Fitness::Meets
+    Ok(())
 }
 
-// Timestamps are in force if both sides offer them.
-fn timestamps_met(own: Offers, peer: Offers) -> bool
-    ensures { result ≡ timestamps_met own peer }
-{
-    let force = own.in_force(peer);
-    force.timestamps
-}
-
-// Each shift counts as it was offered, in force or not.
-fn shifts_met(own: Offers, peer: Offers) -> bool
-    ensures { result ≡ shifts_met own peer }
-{
-    let own_scale = own.scale;
-    let peer_scale = peer.scale;
-    if is_small(own_scale) {
-        return is_small(peer_scale);
-    }
-    false
-}
-
-fn is_small(scale: Scale) -> bool
+// A shift counts as it was offered, in force or not.
+fn is_small(scale: Option<u8>) -> bool
     ensures { result ≡ is_small scale }
 {
-    match scale {
-        Scale::Absent => true,
-        Scale::Shift(shift) => shift <= MAX_OFFERED_SHIFT,
-    }
+    scale.is_none_or(|shift| shift <= MAX_OFFERED_SHIFT)
 }

@@ -1,48 +1,95 @@
--- A number of two octets by its octets, and one of four by its halves, as read and as written. Assumes nothing.
-use mathlib.Core.Path.{◌≡◌, ap, ◌∙◌}
-use mathlib.Core.List.{List, [], ◌∷◌, ◌++◌}
-use Prim.Native.Nat.{ℕ, suc, ◌+◌, ◌*◌, ◌/◌, ◌%◌}
-use native.Mathlib.Numerals.{add-one}
-use native.Mathlib.Omega.{arith}
-use lib.ListN.{get_or, set}
-use lib.Seq.{sets}
-use Rattle.octets.specs.Octets.{big_endian, number_at}
-use Rattle.octets.proofs.Stores.{sets_then}
+-- The octets of a number: those that lie within and octets 0 for the others, and std's conversions of them, one law each over the width.
+-- Assumes nothing.
+use Rattle.std.proofs.Common.{◌≡◌, ℕ, zero, suc, ◌+◌, ◌*◌, ◌/◌, ◌%◌, ◌-◌, ◌^◌, ◌<◌, ◌≤◌, List, [], ◌∷◌, ◌++◌, refl, sym, ap, ◌∙◌, arith, get_or, length, take, drop}
+use Rattle.std.proofs.Math.ListN.{replicate}
+use native.Mathlib.Numerals.{unary_clauses}
+use Rattle.std.proofs.Math.Nat.{mod-eq_of_lt, mod-lt}
+use Rattle.std.proofs.Math.Arith.{mod-mul}
+use Rattle.std.proofs.lemmas.Nat.{div-mul-add, mod-mul-add}
+use Rattle.std.specs.Int.{byte_worth, bytes_high_first, sum_through}
+use Rattle.std.proofs.Math.Seq.{sets}
+use Rattle.octets.specs.Octets.{big_endian, number_at, octets_at}
 
-pub read_octets : (octets : List ℕ) (at : ℕ) → number_at 2 octets at ≡ get_or octets at 0 * 256 + get_or octets (at + 1) 0
-unfolding number_at
-read_octets octets at = rw (add-one at) (omega arith)
+octets_after : (w at x : ℕ) (l : List ℕ) → octets_at w (x ∷ l) (suc at) ≡ octets_at w l at
+unfolding octets_at
+octets_after zero at x l = refl
+octets_after (suc w) at x l = ap (λ (k : List ℕ). get_or l at 0 ∷ k) (octets_after w (suc at) x l)
 
-pub read_halves : (octets : List ℕ) (at : ℕ) → number_at 4 octets at ≡ number_at 2 octets at * 65536 + number_at 2 octets (at + 2)
-unfolding number_at
-read_halves octets at =
-    let second : at + 2 ≡ suc (suc at) = omega arith in
-    rw second (omega arith)
+octets_of_none : (w at : ℕ) → octets_at w [] at ≡ replicate w 0
+unfolding octets_at
+octets_of_none zero at = refl
+octets_of_none (suc w) at = ap (λ (k : List ℕ). 0 ∷ k) (octets_of_none w (suc at))
 
-written_octets : (n high low : ℕ) → high ≡ n / 256 → low ≡ n % 256 → high ∷ low ∷ [] ≡ big_endian 2 n
+octets_from : (w at : ℕ) (l : List ℕ) → octets_at w l at ≡ octets_at w (drop at l) 0
+octets_from w zero l = refl
+octets_from w (suc at) [] = octets_of_none w (suc at) ∙ sym (octets_of_none w 0)
+octets_from w (suc at) (x ∷ l) = octets_after w at x l ∙ octets_from w at l
+
+whole : (w : ℕ) (l : List ℕ) → w ≤ length l → octets_at w l 0 ≡ take w l
+unfolding octets_at
+whole zero l room = refl
+whole (suc w) [] room = absurd (omega arith)
+whole (suc w) (x ∷ l) room = ap (λ (k : List ℕ). x ∷ k) (octets_after w 0 x l ∙ whole w l (omega arith))
+
+cut : (w : ℕ) (l : List ℕ) → length l < w → octets_at w l 0 ≡ l ++ drop (length l) (replicate w 0)
+unfolding octets_at
+cut w [] short = octets_of_none w 0
+cut zero (x ∷ l) short = absurd (omega arith)
+cut (suc w) (x ∷ l) short = ap (λ (k : List ℕ). x ∷ k) (octets_after w 0 x l ∙ cut w l (omega arith))
+
+module _ (w at : ℕ) (l rest : List ℕ) (is : rest ≡ drop at l) where
+  pub octets_whole : w ≤ length rest → take w rest ≡ octets_at w l at
+  octets_whole room = sym (octets_from w at l ∙ rw (← is) (whole w rest room))
+
+  pub octets_cut : length rest < w → rest ++ drop (length rest) (replicate w 0) ≡ octets_at w l at
+  octets_cut short = sym (octets_from w at l ∙ rw (← is) (cut w rest short))
+
+first_apart : (f : ℕ → ℕ) (k : ℕ) → sum_through f (suc k) ≡ f 0 + sum_through (λ i. f (suc i)) k
+first_apart f zero = refl
+first_apart f (suc k) = omega (arith, first_apart f k)
+
+-- std's `from_be_bytes`
+number_of_octets : (w : ℕ) (octets : List ℕ) (at : ℕ)
+    → sum_through (λ i. byte_worth (w - i) (get_or (octets_at (suc w) octets at) i 0)) w ≡ number_at (suc w) octets at
+unfolding number_at octets_at
+number_of_octets zero octets at = omega arith
+number_of_octets (suc w) octets at =
+    first_apart (λ i. byte_worth (suc w - i) (get_or (octets_at (suc (suc w)) octets at) i 0)) w
+    ∙ simp unary_clauses (ap (λ (lower : ℕ). get_or octets at 0 * (256 ^ w * 256) + lower) (number_of_octets w octets (suc at)))
+
+pub read_as : (w : ℕ) {bytes : List ℕ} {n : ℕ} (octets : List ℕ) (at : ℕ) → bytes ≡ octets_at (suc w) octets at
+    → n ≡ sum_through (λ i. byte_worth (w - i) (get_or bytes i 0)) w → n ≡ number_at (suc w) octets at
+read_as w octets at loaded is = rw loaded at is ∙ number_of_octets w octets at
+
+-- std's `to_be_bytes`
+pub power_pos : (w : ℕ) → 0 < 256 ^ w
+power_pos zero = omega arith
+power_pos (suc w) = omega (arith, power_pos w)
+
+module _ (w n : ℕ) where
+  abbrev high : ℕ
+  high = n / 256 ^ w % 256
+
+  octet_apart : n % 256 ^ suc w ≡ high * 256 ^ w + n % 256 ^ w
+  octet_apart =
+      let more : 256 ^ suc w ≡ 256 * 256 ^ w = omega arith in
+      ap (λ (k : ℕ). n % k) more ∙ mod-mul n (omega arith) (power_pos w)
+
+  high_octet : n % 256 ^ suc w / 256 ^ w ≡ high
+  high_octet = rw octet_apart (div-mul-add high (256 ^ w) (n % 256 ^ w) (mod-lt n (power_pos w)))
+
+  low_octets : n % 256 ^ suc w % 256 ^ w ≡ n % 256 ^ w
+  low_octets = rw octet_apart (mod-mul-add high (256 ^ w) (n % 256 ^ w) (mod-lt n (power_pos w)))
+
+octets_of : (w n : ℕ) → bytes_high_first w n ≡ big_endian w (n % 256 ^ w)
 unfolding big_endian
-written_octets n high low h l =
-    let lower : low ≡ n % 256 / 1 = omega arith in
-    λ i. h i ∷ lower i ∷ []
+octets_of zero n = refl
+octets_of (suc zero) n = let e : n % 256 ≡ n % 256 / 1 = omega arith in ap (λ (k : ℕ). k ∷ []) e
+octets_of (suc (suc w)) n =
+    let rest = octets_of (suc w) n ∙ ap (big_endian (suc w)) (sym (low_octets (suc w) n)) in
+    λ i. sym (high_octet (suc w) n) i ∷ rest i
 
-written_halves : (n : ℕ) → big_endian 2 (n / 65536) ++ big_endian 2 (n % 65536) ≡ big_endian 4 n
-unfolding big_endian
-written_halves n =
-    let a : n / 65536 / 256 ≡ n / 16777216 = omega arith in
-    let b : n / 65536 % 256 / 1 ≡ n % 16777216 / 65536 = omega arith in
-    let c : n % 65536 / 256 ≡ n % 16777216 % 65536 / 256 = omega arith in
-    let d : n % 65536 % 256 / 1 ≡ n % 16777216 % 65536 % 256 / 1 = omega arith in
-    λ i. a i ∷ b i ∷ c i ∷ d i ∷ []
-
--- the higher part is stored, then the lower one
-pub stored_octets : (octets : List ℕ) {k m : List ℕ} (at n high low : ℕ) → m ≡ set octets at high → k ≡ set m (at + 1) low
-    → high ≡ n / 256 → low ≡ n % 256 → k ≡ sets octets at (big_endian 2 n)
-stored_octets octets at n high low first second h l =
-    sets_then octets at (high ∷ []) (low ∷ []) first second ∙ ap (sets octets at) (written_octets n high low h l)
-
-pub stored_halves : (octets : List ℕ) {k m : List ℕ} (at n : ℕ) → m ≡ sets octets at (big_endian 2 (n / 65536))
-    → k ≡ sets m (at + 2) (big_endian 2 (n % 65536)) → k ≡ sets octets at (big_endian 4 n)
-unfolding big_endian
-stored_halves octets at n first second =
-    sets_then octets at (big_endian 2 (n / 65536)) (big_endian 2 (n % 65536)) first second
-    ∙ ap (sets octets at) (written_halves n)
+pub written_as : (w n : ℕ) {bytes new : List ℕ} (old : List ℕ) (at : ℕ) → n < 256 ^ w → bytes ≡ bytes_high_first w n → new ≡ sets old at bytes
+    → new ≡ sets old at (big_endian w n)
+written_as w n old at below is stored =
+    stored ∙ ap (sets old at) (is ∙ octets_of w n ∙ ap (big_endian w) (mod-eq_of_lt below))

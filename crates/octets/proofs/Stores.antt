@@ -1,11 +1,13 @@
 -- Octets stored one after the other, `sets` of `lib.Seq`, which leaves out those past the end of the list. Assumes nothing.
 use mathlib.Core.Path.{◌≡◌, refl, sym, ap, ◌∙◌}
-use mathlib.Core.List.{List, [], ◌∷◌, ◌++◌, append-nil}
+use mathlib.Core.List.{List, [], ◌∷◌, ◌++◌, append-nil, append_assoc}
 use Prim.Native.Nat.{ℕ, suc, ◌+◌, ◌≤◌}
 use native.Mathlib.Nat.{add-zero}
 use native.Mathlib.Omega.{arith}
-use lib.ListN.{drop, drop_of_length-le, length, length-append, length-drop, set, take}
-use lib.Seq.{drop-append_seam, length-sets, set_out, sets, sets-eq, take-append_seam}
+use lib.ListN.{drop, drop_of_length-le, length, length-append, length-drop, length-take, set, take}
+use borrow.Rule.Slice.PartMut.{put_mid}
+use lib.Seq.{drop-append_seam, drop-drop, length-sets, set_out, sets, sets-eq, take-append_seam}
+use Rattle.std.proofs.Common.{take-append-drop}
 use Rattle.octets.specs.Octets.{stored}
 
 -- past the end nothing is stored
@@ -46,3 +48,27 @@ module _ (octets buffer : List ℕ) where
 
   pub length_stored : length octets ≤ length buffer → length (stored octets buffer) ≡ length buffer
   length_stored room = simp (length-append, length-drop) (omega arith)
+
+-- Octets m stored in the place of the k octets from a place on, which lie within.
+module _ (l m : List ℕ) (at k : ℕ) (room : at + k ≤ length l) (size : length m ≡ length (take k (drop at l))) where
+  count : length m ≡ k
+  count = omega (arith, size, length-take k (drop at l), length-drop at l)
+
+  there : put_mid at k l m ≡ sets l at m
+  there =
+      let place : at + length m ≡ at + k = omega (arith, count) in
+      let within : at + length m ≤ length l = omega (arith, count) in
+      sym (sets-eq m l at within ∙ append_assoc (take at l) m _ ∙ ap (λ (n : ℕ). take at l ++ (m ++ drop n l)) place
+      ∙ ap (λ (later : List ℕ). take at l ++ (m ++ later)) (sym (drop-drop k at l)))
+
+  pub stored_whole : (xs : List ℕ) → m ≡ xs → put_mid at k l m ≡ sets l at xs
+  stored_whole xs is = there ∙ ap (sets l at) is
+
+  -- those of the octets xs that reach the end
+  pub stored_cut : (xs : List ℕ) (n : ℕ) → at + k ≡ length l → m ≡ take n xs → put_mid at k l m ≡ sets l at xs
+  stored_cut xs n end is =
+      let past : length l ≤ at + length m = omega (arith, count) in
+      let rest : List ℕ = drop n xs in
+      there ∙ sym (sets_out (sets l at m) (at + length m) rest (omega (arith, length-sets l at m)))
+      ∙ sets_append l at m rest
+      ∙ ap (λ (k : List ℕ). sets l at (k ++ rest)) is ∙ ap (sets l at) (take-append-drop n xs)

@@ -18,3 +18,8 @@ big_endian (suc w) n = n / 256 ^ w ∷ big_endian w (n % 256 ^ w)
 -- the octets at the start of the buffer; later octets stay
 abbrev pub stored : List ℕ → List ℕ → List ℕ
 stored octets buffer = octets ++ drop (length octets) buffer
+
+-- the w octets at a place; an octet past the end is 0
+unfoldable pub octets_at : ℕ → List ℕ → ℕ → List ℕ
+octets_at zero octets at = []
+octets_at (suc w) octets at = get_or octets at 0 ∷ octets_at w octets (suc at)

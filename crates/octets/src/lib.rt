@@ -2,40 +2,15 @@
 
 #![tactic(auto)]
 
-ghost use Rattle.std.specs.Prelude.{◌≡◌, ◌+◌, ◌*◌, ◌≤◌, leb, get_or, length, set};
+ghost use Rattle.std.specs.Prelude.{◌≡◌, ℕ, drop, get_or, set};
 ghost use Rattle.std.proofs.lemmas.List.Edits.{sets};
-ghost use Rattle.octets.specs.Octets.{big_endian, number_at};
-
-// Each of these reads an octet past the end as 0.
+ghost use Rattle.octets.specs.Octets.{big_endian, number_at, octets_at};
 
 pub fn read_u8(octets: &[u8], at: usize) -> u8
     ensures { result ≡ get_or octets.now at 0 }
 {
-    if at < octets.len() { octets[at] } else { 0 }
+    octets.get(at).copied().unwrap_or(0)
 }
-
-pub fn read_u16(octets: &[u8], at: usize) -> u16
-    ensures { result ≡ number_at 2 octets.now at }
-{
-    if within(octets, at, 2) {
-        return load_u16(octets, at);
-    }
-    (read_u8(octets, at) as u16) * 256
-}
-
-pub fn read_u32(octets: &[u8], at: usize) -> u32
-    ensures { result ≡ number_at 4 octets.now at }
-{
-    if within(octets, at, 4) {
-        return joined(load_u16(octets, at), load_u16(octets, at + 2));
-    }
-    if at < octets.len() {
-        return joined(read_u16(octets, at), read_u16(octets, at + 2));
-    }
-    0
-}
-
-// Each of these writes the octets that lie within the slice, and leaves out those past its end.
 
 pub fn write_u8(octets: &mut [u8], at: usize, n: u8)
     ensures { octets.new ≡ set octets.old at n }
@@ -45,55 +20,92 @@ pub fn write_u8(octets: &mut [u8], at: usize, n: u8)
     }
 }
 
-pub fn write_u16(octets: &mut [u8], at: usize, n: u16)
-    ensures { octets.new ≡ sets octets.old at (big_endian 2 n) }
+// A number of several octets.
+pub trait Number {
+    ghost width: { ℕ };
+
+    ghost value: { Self → ℕ };
+
+    // An octet past the end is read as 0.
+    fn read(octets: &[u8], at: usize) -> Self
+        ensures { value result ≡ number_at width octets.now at };
+
+    // The octets that lie within the slice are written; those past its end are left out.
+    fn write(self, octets: &mut [u8], at: usize)
+        ensures { octets.new ≡ sets octets.old at (big_endian width (value self)) };
+}
+
+impl Number for u16 {
+    ghost width = { 2 };
+
+    ghost value = { λ n. n };
+
+    fn read(octets: &[u8], at: usize) -> u16 {
+        u16::from_be_bytes(load(octets, at))
+    }
+
+    fn write(self, octets: &mut [u8], at: usize) {
+        store(octets, at, self.to_be_bytes());
+    }
+}
+
+impl Number for u32 {
+    ghost width = { 4 };
+
+    ghost value = { λ n. n };
+
+    fn read(octets: &[u8], at: usize) -> u32 {
+        u32::from_be_bytes(load(octets, at))
+    }
+
+    fn write(self, octets: &mut [u8], at: usize) {
+        store(octets, at, self.to_be_bytes());
+    }
+}
+
+impl Number for u64 {
+    ghost width = { 8 };
+
+    ghost value = { λ n. n };
+
+    fn read(octets: &[u8], at: usize) -> u64 {
+        u64::from_be_bytes(load(octets, at))
+    }
+
+    fn write(self, octets: &mut [u8], at: usize) {
+        store(octets, at, self.to_be_bytes());
+    }
+}
+
+// Where all octets of a number lie within, these two move them by one copy, so that the compiler makes one load or store.
+
+fn load<const N: usize>(octets: &[u8], at: usize) -> [u8; N]
+    ensures { result ≡ octets_at N octets.now at }
 {
-    if within(octets, at, 2) {
-        store_u16(octets, at, n);
+    let rest = from(octets, at);
+    if let Some(whole) = rest.first_chunk() {
+        return *whole;
+    }
+    let mut number = [0; N];
+    number[..rest.len()].copy_from_slice(rest);
+    number
+}
+
+fn from(octets: &[u8], at: usize) -> &[u8]
+    ensures { result.now ≡ drop at octets.now }
+{
+    octets.get(at..).unwrap_or(&[])
+}
+
+fn store<const N: usize>(octets: &mut [u8], at: usize, number: [u8; N])
+    ensures { octets.new ≡ sets octets.old at number.entry }
+{
+    let Some(room) = octets.len().checked_sub(at) else {
+        return;
+    };
+    if N <= room {
+        octets[at..at + N].copy_from_slice(&number);
     } else {
-        write_u8(octets, at, (n / 256) as u8);
+        octets[at..].copy_from_slice(&number[..room]);
     }
-}
-
-pub fn write_u32(octets: &mut [u8], at: usize, n: u32)
-    ensures { octets.new ≡ sets octets.old at (big_endian 4 n) }
-{
-    if within(octets, at, 4) {
-        store_u16(octets, at, (n / 65536) as u16);
-        store_u16(octets, at + 2, (n % 65536) as u16);
-    } else if at < octets.len() {
-        write_u16(octets, at, (n / 65536) as u16);
-        write_u16(octets, at + 2, (n % 65536) as u16);
-    }
-}
-
-// Whether all octets of a number lie within: asked once and before any of them, so that the compiler makes one load or store.
-fn within(octets: &[u8], at: usize, size: usize) -> bool
-    ensures { result ≡ leb (at + size) (length octets.now) }
-{
-    if size <= octets.len() {
-        return at <= octets.len() - size;
-    }
-    false
-}
-
-fn load_u16(octets: &[u8], at: usize) -> u16
-    requires { at + 2 ≤ length octets.now }
-    ensures { result ≡ number_at 2 octets.now at }
-{
-    (octets[at] as u16) * 256 + (octets[at + 1] as u16)
-}
-
-fn joined(high: u16, low: u16) -> u32
-    ensures { result ≡ high * 65536 + low }
-{
-    (high as u32) * 65536 + (low as u32)
-}
-
-fn store_u16(octets: &mut [u8], at: usize, n: u16)
-    requires { at + 2 ≤ length octets.old }
-    ensures { octets.new ≡ sets octets.old at (big_endian 2 n) }
-{
-    octets[at] = (n / 256) as u8;
-    octets[at + 1] = (n % 256) as u8;
 }

@@ -1,10 +1,10 @@
 -- The retransmission timer (document 01, "The timer", and document 02, P4). S and V are in 1/256 ms, a sample R and the timer's value in ms. The
 -- N that a sample brings is RFC 7323's ExpectedSamples: how many samples a round trip is expected to give.
-use Rattle.std.specs.Prelude.{Bool, true, false, cond, ◌&&◌, ◌≡◌, ℕ, ◌+◌, ◌-◌, ◌*◌, ◌/◌, ◌≤◌, min, max, leb}
+use Rattle.std.specs.Prelude.{Bool, true, false, cond, ◌&&◌, ◌≡◌, ℕ, ◌+◌, ◌-◌, ◌*◌, ◌/◌, ◌≤◌, ◌<◌, min, max, leb, Result, Ok, Err}
 use Rattle.std.proofs.Math.Option.{Option, none, some}
+use Rattle.std.proofs.Common.{arith}
 use Rattle.rto.specs.declared.Timer.{Timer}
-use Rattle.rto.specs.declared.SampleAnswer.{SampleAnswer}
-use Rattle.rto.specs.declared.SampleAnswer.TheVariants.{Moved, Refused}
+use Rattle.rto.specs.declared.SampleRefused.{SampleRefused}
 
 -- a new timer: 1,000 ms and no sample
 abbrev pub new_timer : Timer
@@ -72,10 +72,17 @@ abbrev pub answered : Timer → ℕ → ℕ → Answer
 answered t r n =
     cond (is_accepted r n) (record { number = 0; timer = some (sampled_by t r n) }) (record { number = 14; timer = none })
 
--- the same of each case of the answer that the code gives
-abbrev pub shown : SampleAnswer → Answer
-shown (Moved t) = record { number = 0; timer = some t }
-shown Refused = record { number = 14; timer = none }
+-- E14
+abbrev pub number_of : SampleRefused → ℕ
+number_of why = 14
+
+pub number_positive : (why : SampleRefused) → 0 < number_of why
+number_positive why = omega arith
+
+-- the same of the answer that the code gives
+abbrev pub shown : Result Timer SampleRefused → Answer
+shown (Ok t) = record { number = 0; timer = some t }
+shown (Err why) = record { number = number_of why; timer = none }
 
 -- doubled, up to 60,000 ms
 abbrev pub twice : ℕ → ℕ

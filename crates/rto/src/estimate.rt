@@ -1,38 +1,83 @@
-// The timer's arithmetic: S and V after a sample, and the value worked out of them.
-ghost use Rattle.std.specs.Prelude.{◌≡◌, ◌*◌, ◌^◌, ◌≤◌, ◌<◌, max};
-ghost use Rattle.rto.specs.Timer.{apart, limited, mean, next_rttvar, next_srtt, timeout_of, twice};
+// The timer's arithmetic: a sample, S and V after it, and the value worked out of them.
+ghost use Rattle.std.specs.Prelude.{◌≡◌, ◌*◌, ◌≤◌, true, false, MatchResult};
+ghost use Rattle.rto.specs.Timer.{is_accepted, mean, next_rttvar, next_srtt, timeout_of};
 
-// S after a later sample.
-pub fn next_srtt(srtt: u32, rtt: u32, expected: u32) -> u32
-    requires { (256 * rtt < 2 ^ 32) × ((1 ≤ expected) × (expected ≤ 16)) }
-    ensures { result ≡ next_srtt srtt rtt expected }
-{
-    weighted(8 * expected, srtt, 256 * rtt)
+use crate::SampleRefused;
+
+// The longest round-trip sample that is not refused, in ms.
+const MAX_SAMPLE: u32 = 600_000;
+
+// The most samples in a round trip that a sample may name.
+const MAX_EXPECTED: u32 = 16;
+
+// The limits of the timer's value, in ms.
+const MIN_TIMEOUT: u32 = 1_000;
+
+pub const MAX_TIMEOUT: u32 = 60_000;
+
+// A round-trip sample that is not refused.
+#[derive(Clone, Copy)]
+pub struct Sample {
+    // The round-trip time R, in ms.
+    pub rtt: u32,
+    // How many samples a round trip is expected to give.
+    pub expected: u32,
+    ghost accepted: { is_accepted rtt expected ≡ true },
 }
 
-// V after a later sample; `srtt` is the S before it.
-pub fn next_rttvar(srtt: u32, rttvar: u32, rtt: u32, expected: u32) -> u32
-    requires { (256 * rtt < 2 ^ 32) × ((1 ≤ expected) × (expected ≤ 16)) }
-    ensures { result ≡ next_rttvar srtt rttvar rtt expected }
-{
-    weighted(4 * expected, rttvar, difference(srtt, 256 * rtt))
-}
-
-// The value worked out of S and V, in ms.
-pub fn timeout(srtt: u32, rttvar: u32) -> u32
-    ensures { result ≡ timeout_of srtt rttvar }
-{
-    limit((srtt as u64 + larger(256, 4 * (rttvar as u64)) + 887 + 255) / 256)
-}
-
-// The value after an expiry, in ms.
-pub fn doubled(timeout: u32) -> u32
-    ensures { result ≡ twice timeout }
-{
-    if 30_000 <= timeout {
-        return 60_000;
+impl Sample {
+    // E14 refuses a sample that is too long, or that names no sample or too many in a round trip.
+    pub fn new(rtt: u32, expected: u32) -> Result<Sample, SampleRefused>
+        ensures { MatchResult result (λ s. (s.rtt ≡ rtt) × (s.expected ≡ expected)) (λ _. is_accepted rtt expected ≡ false) }
+    {
+        if rtt <= MAX_SAMPLE && (1..=MAX_EXPECTED).contains(&expected) {
+            Ok(Sample { rtt, expected })
+        } else {
+            Err(SampleRefused)
+        }
     }
-    2 * timeout
+}
+
+// S and V, in 1/256 ms.
+#[derive(Clone, Copy)]
+pub struct Estimate {
+    pub srtt: u32,
+    pub rttvar: u32,
+}
+
+impl Estimate {
+    // After the first sample, whatever its N.
+    pub fn first(sample: Sample) -> Estimate
+        ensures { result ≡ record { srtt = 256 * sample.rtt; rttvar = 128 * sample.rtt } }
+    {
+        Estimate {
+            srtt: 256 * sample.rtt,
+            rttvar: 128 * sample.rtt,
+        }
+    }
+
+    // After a later sample, with the old S in both.
+    pub fn next(self, sample: Sample) -> Estimate
+        ensures { result ≡ record {
+          srtt = next_srtt self.srtt sample.rtt sample.expected;
+          rttvar = next_rttvar self.srtt self.rttvar sample.rtt sample.expected;
+        } }
+    {
+        let rtt = 256 * sample.rtt;
+        Estimate {
+            srtt: weighted(8 * sample.expected, self.srtt, rtt),
+            rttvar: weighted(4 * sample.expected, self.rttvar, self.srtt.abs_diff(rtt)),
+        }
+    }
+
+    // The value worked out of S and V, in ms.
+    pub fn timeout(self) -> u32
+        ensures { result ≡ timeout_of self.srtt self.rttvar }
+    {
+        let spread = (4 * u64::from(self.rttvar)).max(256);
+        let ms = (u64::from(self.srtt) + spread + 887).div_ceil(256) as u32;
+        ms.clamp(MIN_TIMEOUT, MAX_TIMEOUT)
+    }
 }
 
 // The mean in which `new` weighs 1/`parts` and `old` the rest, rounded down.
@@ -40,29 +85,5 @@ fn weighted(parts: u32, old: u32, new: u32) -> u32
     requires { 1 ≤ parts }
     ensures { result ≡ mean parts old new }
 {
-    (((parts - 1) as u64 * (old as u64) + (new as u64)) / (parts as u64)) as u32
-}
-
-fn limit(ms: u64) -> u32
-    ensures { result ≡ limited ms }
-{
-    if ms < 1_000 {
-        1_000
-    } else if ms < 60_000 {
-        ms as u32
-    } else {
-        60_000
-    }
-}
-
-fn larger(a: u64, b: u64) -> u64
-    ensures { result ≡ max a b }
-{
-    if a < b { b } else { a }
-}
-
-fn difference(a: u32, b: u32) -> u32
-    ensures { result ≡ apart a b }
-{
-    if a < b { b - a } else { a - b }
+    ((u64::from(parts - 1) * u64::from(old) + u64::from(new)) / u64::from(parts)) as u32
 }

@@ -5,19 +5,18 @@
 
 mod estimate;
 
-ghost use Rattle.std.specs.Prelude.{◌≡◌, true};
-ghost use Rattle.rto.specs.Timer.{answered, estimated_by, expired, is_accepted, milliseconds_of, new_timer, sampled_by, shown};
+ghost use Rattle.std.specs.Prelude.{◌≡◌};
+ghost use Rattle.rto.specs.Timer.{answered, expired, milliseconds_of, new_timer, number_of, number_positive, sampled_by, shown};
 ghost use Rattle.rto.specs.Calls.{called, sample};
 
-// The longest round-trip sample that is not refused, in ms.
-const MAX_SAMPLE: u32 = 600_000;
-
-// The most samples in a round trip that a sample may name.
-const MAX_EXPECTED: u32 = 16;
+use estimate::{Estimate, MAX_TIMEOUT, Sample};
+use refusals::Numbered;
 
 // The most that samples can make of S or V, in 1/256 ms.
 const MAX_ESTIMATE: u64 = 153_600_000;
 
+// S and V stand beside a flag, and not in an `Option`: before a sample they are 0, as a record shows them, and what the operations promise
+// they promise of a timer with any S and V.
 #[derive(Clone, Copy)]
 pub struct Timer {
     // S, 0 until a sample sets it.
@@ -30,24 +29,18 @@ pub struct Timer {
     pub timeout: u32,
 }
 
-// What a round-trip sample answers.
+// A round-trip sample is refused: E14.
 #[derive(Clone, Copy)]
-pub enum SampleAnswer {
-    Moved(Timer),
-    // E14.
-    Refused,
-}
+pub struct SampleRefused;
 
-impl SampleAnswer {
-    // The answer's number, 0 or 14.
-    pub fn number(self) -> u8
-        ensures { result ≡ (shown self).number }
-    {
-        match self {
-            SampleAnswer::Moved(_) => 0,
-            SampleAnswer::Refused => 14,
-        }
+impl Numbered for SampleRefused {
+    ghost number = { number_of };
+
+    fn number(self) -> u8 {
+        14
     }
+
+    ghost positive = { number_positive };
 }
 
 impl Timer {
@@ -63,24 +56,18 @@ impl Timer {
     }
 
     // The timer after a round-trip sample of `rtt` ms, where a round trip is expected to give so many samples (RFC 7323's ExpectedSamples).
-    pub fn sample(self, rtt: u32, expected: u32) -> SampleAnswer
+    pub fn sample(self, rtt: u32, expected: u32) -> Result<Timer, SampleRefused>
         ensures { shown result ≡ answered self rtt expected }
     {
-        if is_accepted(rtt, expected) {
-            SampleAnswer::Moved(self.after(rtt, expected))
-        } else {
-            SampleAnswer::Refused
-        }
+        let sample = Sample::new(rtt, expected)?;
+        Ok(self.after(sample))
     }
 
     // The timer after a sample that is left out where it would be refused, as the sample of a segment is.
     pub fn feed(self, rtt: u32, expected: u32) -> Timer
         ensures { result ≡ called self (sample rtt expected) }
     {
-        match self.sample(rtt, expected) {
-            SampleAnswer::Moved(moved) => moved,
-            SampleAnswer::Refused => self,
-        }
+        self.sample(rtt, expected).unwrap_or(self)
     }
 
     // The timer after an expiry.
@@ -88,24 +75,31 @@ impl Timer {
         ensures { result ≡ expired self }
     {
         Timer {
-            timeout: estimate::doubled(self.timeout),
+            timeout: self.timeout.saturating_mul(2).min(MAX_TIMEOUT),
             ..self
         }
     }
 
     // The timer after a sample that is not refused.
-    fn after(self, rtt: u32, expected: u32) -> Timer
-        requires { is_accepted rtt expected ≡ true }
-        ensures { result ≡ sampled_by self rtt expected }
+    fn after(self, sample: Sample) -> Timer
+        ensures { result ≡ sampled_by self sample.rtt sample.expected }
     {
-        let srtt = self.srtt;
-        let rttvar = self.rttvar;
-        let sampled = self.sampled;
-        if sampled {
-            let smoothed = estimate::next_srtt(srtt, rtt, expected);
-            estimated(smoothed, estimate::next_rttvar(srtt, rttvar, rtt, expected))
+        let Timer {
+            srtt,
+            rttvar,
+            sampled,
+            ..
+        } = self;
+        let estimate = if sampled {
+            Estimate { srtt, rttvar }.next(sample)
         } else {
-            estimated(256 * rtt, 128 * rtt)
+            Estimate::first(sample)
+        };
+        Timer {
+            srtt: estimate.srtt,
+            rttvar: estimate.rttvar,
+            sampled: true,
+            timeout: estimate.timeout(),
         }
     }
 }
@@ -114,36 +108,12 @@ impl Timer {
 pub fn milliseconds(srtt: u64, rttvar: u64) -> u32
     ensures { result ≡ milliseconds_of srtt rttvar }
 {
-    if MAX_ESTIMATE < srtt {
+    if MAX_ESTIMATE < srtt || MAX_ESTIMATE < rttvar {
         return 0;
     }
-    if MAX_ESTIMATE < rttvar {
-        return 0;
-    }
-    estimate::timeout(srtt as u32, rttvar as u32)
-}
-
-// Whether a sample is not refused.
-fn is_accepted(rtt: u32, expected: u32) -> bool
-    ensures { result ≡ is_accepted rtt expected }
-{
-    if MAX_SAMPLE < rtt {
-        return false;
-    }
-    if expected == 0 {
-        return false;
-    }
-    expected <= MAX_EXPECTED
-}
-
-// A timer whose S and V a sample has set.
-fn estimated(srtt: u32, rttvar: u32) -> Timer
-    ensures { result ≡ estimated_by srtt rttvar }
-{
-    Timer {
-        srtt,
-        rttvar,
-        sampled: true,
-        timeout: estimate::timeout(srtt, rttvar),
-    }
+    let estimate = Estimate {
+        srtt: srtt as u32,
+        rttvar: rttvar as u32,
+    };
+    estimate.timeout()
 }

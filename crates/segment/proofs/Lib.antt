@@ -11,6 +11,7 @@ pub mod Induction
 pub mod Inside
 mod Judging
 pub mod KindAtFault
+mod KindsKnown
 mod Listed
 pub mod LowKinds
 mod Membership

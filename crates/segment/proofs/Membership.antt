@@ -6,10 +6,18 @@ use mathlib.Core.Logic.{◌⊎◌, inl, inr}
 use mathlib.Core.Path.{◌≡◌, refl, sym, ap, subst, ◌∙◌}
 use Prim.Native.Nat.{ℕ, ◌≤◌, ◌<◌}
 use lib.Dec.{eqb, leb}
-use borrow.Author.Tests.{eq-eqb, eqb-true, le-leb, lt-leb, ne_eqb}
+use Rattle.std.specs.List.{list_any}
+use borrow.Author.Tests.{eq-eqb, eqb-false, eqb-true, le-leb, lt-leb, ne_eqb}
 use Rattle.laws.specs.Lists.{Each, filter}
 use Rattle.laws.specs.Lists.Each.{none, more}
 use Rattle.segment.specs.Options.{stands_in}
+
+eqb_comm : (a b : ℕ) → eqb a b ≡ eqb b a
+eqb_comm a b = go (eqb a b) refl
+  where
+    go : (t : Bool) → eqb a b ≡ t → t ≡ eqb b a
+    go true e = sym (eq-eqb b a (sym (eqb-true a b e)))
+    go false e = sym (ne_eqb b a (λ same. eqb-false a b e (sym same)))
 
 pub stands_if : (n : ℕ) (l : List ℕ) → Memᴰ n l → stands_in n l ≡ true
 unfolding stands_in
@@ -20,6 +28,12 @@ stands_if n (x ∷ xs) m = go (Memᴰ.cases_cons m) (eqb n x) refl (stands_if n 
     go c true e rest = refl
     go (inl same) false e rest = absurd (true≢false (sym (eq-eqb n x same) ∙ e))
     go (inr m) false e rest = rest m
+
+-- what a slice's `contains` says
+pub any_stands : (n : ℕ) (l : List ℕ) → list_any (λ x. eqb x n) l ≡ stands_in n l
+unfolding stands_in
+any_stands n [] = refl
+any_stands n (x ∷ xs) = λ i. eqb_comm x n i || any_stands n xs i
 
 pub stands_only : (n : ℕ) (l : List ℕ) → stands_in n l ≡ true → Memᴰ n l
 unfolding stands_in

@@ -7,19 +7,16 @@ use mathlib.Core.Path.{◌≡◌, refl, sym, ap, ◌∙◌}
 use Prim.Native.Nat.{ℕ, ◌+◌, ◌*◌, ◌≤◌}
 use native.Mathlib.Omega.{arith}
 use lib.ListN.{get_or, length}
+use Rattle.std.specs.Prelude.{Some, None}
 use Rattle.serial.specs.Serial.{range}
 use Rattle.serial.specs.declared.Range.{Range}
 use Rattle.octets.specs.Octets.{big_endian, number_at}
 use Rattle.octets.proofs.ReadBack.{number_at_big_endian}
-use Rattle.offers.specs.declared.Scale.{Scale}
 use Rattle.segment.specs.Grammar.{Step, whole}
-use Rattle.segment.specs.Options.{Found, block_list, blocks_from, blocks_of, fault_at, found, is_found, mss_of, nothing, one_to_four, option_of, options_of, scale_of, timestamps_of}
+use Rattle.segment.specs.Options.{Found, blocks_from, blocks_of, fault_at, found, is_found, mss_of, nothing, option_of, options_of, scale_of, timestamps_of}
 use Rattle.segment.specs.Reading.{Answer, read_as, reading, segment_of, steps_of}
-use Rattle.segment.specs.declared.Mss.{Mss}
 use Rattle.segment.specs.declared.Options.{Options}
-use Rattle.segment.specs.declared.SackBlocks.{SackBlocks}
 use Rattle.segment.specs.declared.Segment.{Segment}
-use Rattle.segment.specs.declared.Timestamps.{Timestamps}
 use Rattle.segment.proofs.Faults.{Among, RightLength, judged_only, mss, window_scale, sack_permitted, one_block, two_blocks, three_blocks, four_blocks, timestamps, second_time}
 use Rattle.segment.proofs.FoundOption.{first_option, nothing_if}
 use Rattle.segment.proofs.Numbers.{faultless}
@@ -63,14 +60,14 @@ module _ (s : List ℕ) (w : Segment) (e : reading s ≡ read_as w) where
         listed = Memᴰ.head refl;
       })
 
-  pub mss_value : (at n : ℕ) → Memᴰ (whole at (2 ∷ 4 ∷ big_endian 2 n)) (steps_of s) → w.options.mss ≡ Mss.Octets n
+  pub mss_value : (at n : ℕ) → Memᴰ (whole at (2 ∷ 4 ∷ big_endian 2 n)) (steps_of s) → w.options.mss ≡ Some n
   unfolding options_of big_endian number_at
   mss_value at n m =
       ap (λ (o : Options). o.mss) options_are
       ∙ ap mss_of (is_option_lem at (2 ∷ 4 ∷ big_endian 2 n) mss m)
-      ∙ ap Mss.Octets (number_at_big_endian 1 n [])
+      ∙ ap Some (number_at_big_endian 1 n [])
 
-  pub scale_value : (at shift : ℕ) → Memᴰ (whole at (3 ∷ 3 ∷ shift ∷ [])) (steps_of s) → w.options.scale ≡ Scale.Shift shift
+  pub scale_value : (at shift : ℕ) → Memᴰ (whole at (3 ∷ 3 ∷ shift ∷ [])) (steps_of s) → w.options.scale ≡ Some shift
   unfolding options_of
   scale_value at shift m =
       ap (λ (o : Options). o.scale) options_are ∙ ap scale_of (is_option_lem at (3 ∷ 3 ∷ shift ∷ []) window_scale m)
@@ -81,28 +78,28 @@ module _ (s : List ℕ) (w : Segment) (e : reading s ≡ read_as w) where
       ap (λ (o : Options). o.permitted) options_are ∙ ap is_found (is_option_lem at (4 ∷ 2 ∷ []) sack_permitted m)
 
   pub timestamps_value : (at value echoed : ℕ) → Memᴰ (whole at (8 ∷ 10 ∷ (big_endian 4 value ++ big_endian 4 echoed))) (steps_of s)
-      → w.options.timestamps ≡ Timestamps.Pair (record { 0 = value }) (record { 0 = echoed })
+      → w.options.timestamps ≡ Some (record { value = record { 0 = value }; echoed = record { 0 = echoed } })
   unfolding options_of big_endian number_at
   timestamps_value at value echoed m =
       ap (λ (o : Options). o.timestamps) options_are
       ∙ ap timestamps_of (is_option_lem at (8 ∷ 10 ∷ (big_endian 4 value ++ big_endian 4 echoed)) timestamps m)
-      ∙ (λ i. Timestamps.Pair (record { 0 = number_at_big_endian 3 value [] i }) (record { 0 = number_at_big_endian 3 echoed [] i }))
+      ∙ (λ i. Some (record { value = record { 0 = number_at_big_endian 3 value [] i }; echoed = record { 0 = number_at_big_endian 3 echoed [] i } }))
 
   -- one to four blocks, in their order
   pub blocks_value : (at : ℕ) (r : Range) (rs : List Range) → length rs ≤ 3
       → Memᴰ (whole at (5 ∷ (8 * length (r ∷ rs) + 2) ∷ edges_of (r ∷ rs))) (steps_of s)
-      → block_list w.options.blocks ≡ r ∷ rs
-  unfolding options_of big_endian number_at blocks_from one_to_four
+      → w.options.blocks ≡ r ∷ rs
+  unfolding options_of big_endian number_at blocks_from
   blocks_value at a rs few m = go rs few m
     where
       said : (octets : List ℕ) → get_or octets 0 0 ≡ 5 → RightLength 5 (length octets) → Memᴰ (whole at octets) (steps_of s)
-          → block_list w.options.blocks ≡ block_list (blocks_of (found at octets))
+          → w.options.blocks ≡ blocks_of (found at octets)
       said octets five right m =
-          ap (λ (o : Options). block_list o.blocks) options_are
-          ∙ ap (λ (f : Found). block_list (blocks_of f)) (rw five at (is_option_lem at octets (rw five right) m))
+          ap (λ (o : Options). o.blocks) options_are
+          ∙ ap (λ (f : Found). blocks_of f) (rw five at (is_option_lem at octets (rw five right) m))
 
       go : (rs : List Range) → length rs ≤ 3 → Memᴰ (whole at (5 ∷ (8 * length (a ∷ rs) + 2) ∷ edges_of (a ∷ rs))) (steps_of s)
-          → block_list w.options.blocks ≡ a ∷ rs
+          → w.options.blocks ≡ a ∷ rs
       go [] few m = said _ refl one_block m ∙ (λ i. block_back a i ∷ [])
       go (b ∷ []) few m = said _ refl two_blocks m ∙ (λ i. block_back a i ∷ block_back b i ∷ [])
       go (b ∷ c ∷ []) few m = said _ refl three_blocks m ∙ (λ i. block_back a i ∷ block_back b i ∷ block_back c i ∷ [])
@@ -113,11 +110,11 @@ module _ (s : List ℕ) (w : Segment) (e : reading s ≡ read_as w) where
   is_none : (kind : ℕ) → (Among kind (steps_of s) → ⊥) → option_of kind (steps_of s) ≡ nothing
   is_none kind none = nothing_if (kind ∷ []) (steps_of s) (λ at octets m listed. none (at, octets, m, Memᴰ.eq_of_singleton listed))
 
-  pub no_mss : (Among 2 (steps_of s) → ⊥) → w.options.mss ≡ Mss.Absent
+  pub no_mss : (Among 2 (steps_of s) → ⊥) → w.options.mss ≡ None
   unfolding options_of
   no_mss none = ap (λ (o : Options). o.mss) options_are ∙ ap mss_of (is_none 2 none)
 
-  pub no_scale : (Among 3 (steps_of s) → ⊥) → w.options.scale ≡ Scale.Absent
+  pub no_scale : (Among 3 (steps_of s) → ⊥) → w.options.scale ≡ None
   unfolding options_of
   no_scale none = ap (λ (o : Options). o.scale) options_are ∙ ap scale_of (is_none 3 none)
 
@@ -125,10 +122,10 @@ module _ (s : List ℕ) (w : Segment) (e : reading s ≡ read_as w) where
   unfolding options_of
   not_permitted none = ap (λ (o : Options). o.permitted) options_are ∙ ap is_found (is_none 4 none)
 
-  pub no_blocks : (Among 5 (steps_of s) → ⊥) → w.options.blocks ≡ SackBlocks.Absent
+  pub no_blocks : (Among 5 (steps_of s) → ⊥) → w.options.blocks ≡ []
   unfolding options_of
   no_blocks none = ap (λ (o : Options). o.blocks) options_are ∙ ap blocks_of (is_none 5 none)
 
-  pub no_timestamps : (Among 8 (steps_of s) → ⊥) → w.options.timestamps ≡ Timestamps.Absent
+  pub no_timestamps : (Among 8 (steps_of s) → ⊥) → w.options.timestamps ≡ None
   unfolding options_of
   no_timestamps none = ap (λ (o : Options). o.timestamps) options_are ∙ ap timestamps_of (is_none 8 none)

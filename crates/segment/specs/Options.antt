@@ -1,16 +1,14 @@
 -- What the options say, and which are refused (document 01, "Reading a segment" and "Numbers given when work is declined"); where the first
 -- fault stands, and how many options are skipped (document 02, P6); which steps count (P8).
-use Rattle.std.specs.Prelude.{ℕ, zero, suc, ◌+◌, ◌-◌, ◌/◌, Bool, true, false, cond, not, ◌&&◌, ◌||◌, List, [], ◌∷◌, ◌++◌, map, eqb, get_or, length}
+use Rattle.std.specs.Prelude.{ℕ, zero, suc, ◌+◌, ◌-◌, ◌/◌, Bool, true, false, cond, not, ◌&&◌, ◌||◌, List, [], ◌∷◌, ◌++◌, map, eqb, get_or, length, take}
+use Rattle.std.specs.Prelude as std
 use Rattle.std.proofs.Math.Option.{Option, none, some}
 use Rattle.laws.specs.Lists.{filter}
 use Rattle.octets.specs.Octets.{number_at}
 use Rattle.serial.specs.Serial.{range}
 use Rattle.serial.specs.declared.Range.{Range}
-use Rattle.offers.specs.declared.Scale.{Scale}
 use Rattle.segment.specs.Grammar.{Step, nop, end, whole, broken}
-use Rattle.segment.specs.declared.Mss.{Mss}
 use Rattle.segment.specs.declared.Options.{Options}
-use Rattle.segment.specs.declared.SackBlocks.{SackBlocks}
 use Rattle.segment.specs.declared.Timestamps.{Timestamps}
 
 -- whether a number stands in a list
@@ -112,7 +110,7 @@ skipped_in steps = length (filter is_skipped steps)
 
 -- TSval, then TSecr
 abbrev pub timestamps_in : List ℕ → Timestamps
-timestamps_in octets = Timestamps.Pair (record { 0 = number_at 4 octets 2 }) (record { 0 = number_at 4 octets 6 })
+timestamps_in octets = record { value = record { 0 = number_at 4 octets 2 }; echoed = record { 0 = number_at 4 octets 6 } }
 
 -- a block of a SACK option: left edge, then right edge
 abbrev pub block_at : List ℕ → ℕ → Range
@@ -123,32 +121,25 @@ unfoldable pub blocks_from : ℕ → List ℕ → ℕ → List Range
 blocks_from zero octets at = []
 blocks_from (suc n) octets at = block_at octets at ∷ blocks_from n octets (at + 8)
 
--- a block and those after it, at most four in all
-unfoldable pub one_to_four : Range → List Range → SackBlocks
-one_to_four a [] = SackBlocks.One a
-one_to_four a (b ∷ []) = SackBlocks.Two a b
-one_to_four a (b ∷ c ∷ []) = SackBlocks.Three a b c
-one_to_four a (b ∷ c ∷ d ∷ more) = SackBlocks.Four a b c d
-
--- length 10 has one block, and each 8 octets beyond it one more
-abbrev pub blocks_in : List ℕ → SackBlocks
-blocks_in octets = one_to_four (block_at octets 2) (blocks_from ((length octets - 10) / 8) octets 10)
+-- length 10 has one block, and each 8 octets beyond it one more, to at most four
+abbrev pub blocks_in : List ℕ → List Range
+blocks_in octets = take 4 (block_at octets 2 ∷ blocks_from ((length octets - 10) / 8) octets 10)
 
 -- Each field is the value of the option of its kind.
-abbrev pub mss_of : Found → Mss
-mss_of nothing = Mss.Absent
-mss_of (found at octets) = Mss.Octets (number_at 2 octets 2)
+abbrev pub mss_of : Found → std.Option ℕ
+mss_of nothing = std.None
+mss_of (found at octets) = std.Some (number_at 2 octets 2)
 
-abbrev pub scale_of : Found → Scale
-scale_of nothing = Scale.Absent
-scale_of (found at octets) = Scale.Shift (get_or octets 2 0)
+abbrev pub scale_of : Found → std.Option ℕ
+scale_of nothing = std.None
+scale_of (found at octets) = std.Some (get_or octets 2 0)
 
-abbrev pub timestamps_of : Found → Timestamps
-timestamps_of nothing = Timestamps.Absent
-timestamps_of (found at octets) = timestamps_in octets
+abbrev pub timestamps_of : Found → std.Option Timestamps
+timestamps_of nothing = std.None
+timestamps_of (found at octets) = std.Some (timestamps_in octets)
 
-abbrev pub blocks_of : Found → SackBlocks
-blocks_of nothing = SackBlocks.Absent
+abbrev pub blocks_of : Found → List Range
+blocks_of nothing = []
 blocks_of (found at octets) = blocks_in octets
 
 unfoldable pub options_of : List Step → Options
@@ -159,11 +150,3 @@ options_of steps = record {
   blocks = blocks_of (option_of 5 steps);
   timestamps = timestamps_of (option_of 8 steps);
 }
-
--- the blocks in their order
-abbrev pub block_list : SackBlocks → List Range
-block_list SackBlocks.Absent = []
-block_list (SackBlocks.One a) = a ∷ []
-block_list (SackBlocks.Two a b) = a ∷ b ∷ []
-block_list (SackBlocks.Three a b c) = a ∷ b ∷ c ∷ []
-block_list (SackBlocks.Four a b c d) = a ∷ b ∷ c ∷ d ∷ []

@@ -1,7 +1,8 @@
 -- Reading a segment (document 01, "Reading a segment" and "Numbers given when work is declined"), and the number of steps that reading its
 -- options reports (document 02, P8).
-use Rattle.std.specs.Prelude.{ℕ, ◌+◌, ◌-◌, ◌*◌, ◌/◌, ◌%◌, ◌^◌, Bool, cond, ◌||◌, List, [], ◌∷◌, eqb, leb, ltb, drop, get_or, length, take}
+use Rattle.std.specs.Prelude.{ℕ, ◌+◌, ◌-◌, ◌*◌, ◌/◌, ◌%◌, ◌^◌, ◌<◌, Bool, cond, ◌||◌, List, [], ◌∷◌, eqb, leb, ltb, drop, get_or, length, take, Result, Ok, Err}
 use Rattle.std.proofs.Math.Option.{Option, none, some, Option-elim, map}
+use Rattle.std.proofs.Common.{arith}
 use Rattle.laws.specs.Lists.{filter}
 use Rattle.octets.specs.Octets.{number_at}
 use Rattle.segment.specs.Grammar.{Step, padding_rule}
@@ -42,6 +43,15 @@ number_of (Refusal.BrokenOption place) = 4
 number_of (Refusal.WrongOptionLength place) = 5
 number_of (Refusal.RepeatedOption place) = 6
 
+-- none of them is 0
+pub number_positive : (why : Refusal) → 0 < number_of why
+number_positive Refusal.TooShort = omega arith
+number_positive Refusal.TooLong = omega arith
+number_positive Refusal.BadDataOffset = omega arith
+number_positive (Refusal.BrokenOption place) = omega arith
+number_positive (Refusal.WrongOptionLength place) = omega arith
+number_positive (Refusal.RepeatedOption place) = omega arith
+
 -- the place of the kind octet at fault, which three of them hold
 abbrev pub fault_place : Refusal → Option ℕ
 fault_place Refusal.TooShort = none
@@ -56,10 +66,14 @@ pub record Report : Type 0 where
   pub answer : Answer Segment
   pub steps : ℕ
 
--- the number, the place and the fields of each case of the answer that the code gives, and its number of steps
+-- the number, the place and the fields of what the code answers
+abbrev pub shown_answer : Result Segment Refusal → Answer Segment
+shown_answer (Ok segment) = read_as segment
+shown_answer (Err why) = record { number = number_of why; place = fault_place why; fields = none }
+
+-- the same with its number of steps
 abbrev pub shown : Reading → Report
-shown (Reading.Segment segment steps) = record { answer = read_as segment; steps = steps }
-shown (Reading.Refused why steps) = record { answer = record { number = number_of why; place = fault_place why; fields = none }; steps = steps }
+shown reading = record { answer = shown_answer reading.outcome; steps = reading.steps }
 
 -- the options of the steps, or the first fault
 unfoldable pub options_read : List Step → Answer Options

@@ -3,7 +3,7 @@ ghost use Rattle.std.specs.Prelude.{cond, ◌≡◌, ◌*◌, ◌≤◌, length}
 ghost use Rattle.segment.specs.Reading.{data_offset, flags_of, len_of, segment_of};
 
 use super::{Flags, Options, Payload, Segment};
-use octets::{read_u8, read_u16, read_u32};
+use octets::{Number, read_u8};
 use serial::Seq;
 
 // Where the header ends, by the data offset of octet 12.
@@ -47,13 +47,13 @@ pub fn fields(segment: &[u8], end: usize, skipped: usize, options: Options) -> S
     requires { (end ≤ length segment.now) × (length segment.now ≤ 65535) }
     ensures { result ≡ segment_of segment.now end skipped options }
 {
-    let source = read_u16(segment, 0);
-    let destination = read_u16(segment, 2);
-    let seq = Seq(read_u32(segment, 4));
-    let ack = Seq(read_u32(segment, 8));
+    let source = u16::read(segment, 0);
+    let destination = u16::read(segment, 2);
+    let seq = Seq(u32::read(segment, 4));
+    let ack = Seq(u32::read(segment, 8));
     let flags = flags(read_u8(segment, 13));
-    let window = read_u16(segment, 14);
-    let urgent = read_u16(segment, 18);
+    let window = u16::read(segment, 14);
+    let urgent = u16::read(segment, 18);
     let length = (segment.len() - end) as u32;
     let payload = Payload { start: end, length };
     let len = len(length, flags);

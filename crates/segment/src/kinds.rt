@@ -1,14 +1,38 @@
 // The kinds of option that a segment is read by.
+ghost use Rattle.segment.specs.Kinds.{IsKind};
+
+// The two kinds that have no length octet.
 pub const END: u8 = 0;
 
 pub const NOP: u8 = 1;
 
-pub const MSS: u8 = 2;
+// The known kinds of option.
+#[derive(Clone, Copy, PartialEq, Eq)]
+pub enum Kind {
+    Mss = 2,
+    WindowScale = 3,
+    SackPermitted = 4,
+    Sack = 5,
+    Timestamps = 8,
+}
 
-pub const WINDOW_SCALE: u8 = 3;
+// A kind that is not known.
+#[derive(Clone, Copy, PartialEq, Eq)]
+pub struct UnknownKind;
 
-pub const SACK_PERMITTED: u8 = 4;
+impl TryFrom<u8> for Kind {
+    type Error = UnknownKind;
 
-pub const SACK: u8 = 5;
+    ghost try_from_gives = { IsKind };
 
-pub const TIMESTAMPS: u8 = 8;
+    fn try_from(kind: u8) -> Result<Kind, UnknownKind> {
+        match kind {
+            2 => Ok(Kind::Mss),
+            3 => Ok(Kind::WindowScale),
+            4 => Ok(Kind::SackPermitted),
+            5 => Ok(Kind::Sack),
+            8 => Ok(Kind::Timestamps),
+            _ => Err(UnknownKind),
+        }
+    }
+}

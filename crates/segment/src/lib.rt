@@ -7,15 +7,17 @@ mod fixed_header;
 pub mod kinds;
 mod notes;
 mod rules;
+mod sack_blocks;
 mod values;
 
-ghost use Rattle.std.specs.Prelude.{◌≡◌};
+ghost use Rattle.std.specs.Prelude.{◌≡◌, Err};
 ghost use Rattle.segment.specs.Part.{IsPart};
-ghost use Rattle.segment.specs.Reading.{found_option, number_of, reported, shown};
+ghost use Rattle.segment.specs.Reading.{found_option, number_of, number_positive, reported, shown};
 
 use octets::read_u8;
-use offers::Scale;
-use serial::{Range, Seq, Stamp};
+use refusals::Numbered;
+pub use sack_blocks::SackBlocks;
+use serial::{Seq, Stamp};
 
 // The least octets of a segment: the header without options.
 const FIXED_HEADER: usize = 20;
@@ -36,40 +38,24 @@ pub struct Flags {
     pub fin: bool,
 }
 
-// The maximum segment size, in octets.
-#[derive(Clone, Copy)]
-pub enum Mss {
-    Absent,
-    Octets(u16),
-}
-
-// TSval and TSecr, in this order.
-#[derive(Clone, Copy)]
-pub enum Timestamps {
-    Absent,
-    Pair(Stamp, Stamp),
-}
-
-// The blocks of a SACK option, in their order.
-#[derive(Clone, Copy)]
-pub enum SackBlocks {
-    Absent,
-    One(Range),
-    Two(Range, Range),
-    Three(Range, Range, Range),
-    Four(Range, Range, Range, Range),
+// TSval and TSecr.
+#[derive(Clone, Copy, PartialEq, Eq)]
+pub struct Timestamps {
+    pub value: Stamp,
+    pub echoed: Stamp,
 }
 
 // What the options of a segment say.
 #[derive(Clone, Copy)]
 pub struct Options {
-    pub mss: Mss,
-    // As the peer wrote it: a shift above 14 too.
-    pub scale: Scale,
+    // The maximum segment size, in octets.
+    pub mss: Option<u16>,
+    // The shift as the peer wrote it: one above 14 too.
+    pub scale: Option<u8>,
     // Whether SACK-permitted is among them.
     pub permitted: bool,
     pub blocks: SackBlocks,
-    pub timestamps: Timestamps,
+    pub timestamps: Option<Timestamps>,
 }
 
 // Where the payload lies in the segment.
@@ -110,11 +96,11 @@ pub enum Refusal {
     RepeatedOption(u8),
 }
 
-impl Refusal {
+impl Numbered for Refusal {
+    ghost number = { number_of };
+
     // The refusal's number, 1 to 6.
-    pub fn number(self) -> u8
-        ensures { result ≡ number_of self }
-    {
+    fn number(self) -> u8 {
         match self {
             Refusal::TooShort => 1,
             Refusal::TooLong => 2,
@@ -124,25 +110,35 @@ impl Refusal {
             Refusal::RepeatedOption(_) => 6,
         }
     }
+
+    ghost positive = { number_positive };
 }
 
-// What reading a segment answers, each with the number of steps that its options took: one for each NOP, for a kind 0 and for each other
-// option, up to and with the first at fault; 0 with E1 to E3.
+// What reading a segment answers.
 #[derive(Clone, Copy)]
-pub enum Reading {
-    Segment(Segment, usize),
-    Refused(Refusal, usize),
+pub struct Reading {
+    pub outcome: Result<Segment, Refusal>,
+    // How many steps its options took: one for each NOP, for a kind 0 and for each other option, up to and with the first at fault; 0 with
+    // E1 to E3.
+    pub steps: usize,
 }
 
 impl Reading {
+    // A refusal by E1 to E3, which take no step.
+    fn unread(why: Refusal) -> Reading
+        ensures { result ≡ record { outcome = Err why; steps = 0 } }
+    {
+        Reading {
+            outcome: Err(why),
+            steps: 0,
+        }
+    }
+
     // The refusal's number, 0 where the segment can be read.
     pub fn number(self) -> u8
         ensures { result ≡ (shown self).answer.number }
     {
-        match self {
-            Reading::Segment(_, _) => 0,
-            Reading::Refused(why, _) => why.number(),
-        }
+        refusals::number_of(&self.outcome)
     }
 }
 
@@ -151,17 +147,14 @@ pub fn read(segment: &[u8]) -> Reading
     ensures { shown result ≡ reported segment.now }
 {
     if segment.len() < FIXED_HEADER {
-        return Reading::Refused(Refusal::TooShort, 0);
+        return Reading::unread(Refusal::TooShort);
     }
     if MAX_SEGMENT < segment.len() {
-        return Reading::Refused(Refusal::TooLong, 0);
+        return Reading::unread(Refusal::TooLong);
     }
     let end = fixed_header::end(segment);
-    if end < FIXED_HEADER {
-        return Reading::Refused(Refusal::BadDataOffset, 0);
-    }
-    if segment.len() < end {
-        return Reading::Refused(Refusal::BadDataOffset, 0);
+    if end < FIXED_HEADER || segment.len() < end {
+        return Reading::unread(Refusal::BadDataOffset);
     }
     let mut notes = [0u8; notes::LENGTH];
     let number = rules::padding_rule(&segment[0..end], FIXED_HEADER, &mut notes);
@@ -169,13 +162,25 @@ pub fn read(segment: &[u8]) -> Reading
     let place = read_u8(&notes, notes::LAST);
     match number {
         // Returned at once, so that the fields of a segment are stored as they are read.
-        4 => return Reading::Refused(Refusal::BrokenOption(place), steps),
-        5 => return Reading::Refused(Refusal::WrongOptionLength(place), steps),
-        6 => return Reading::Refused(Refusal::RepeatedOption(place), steps),
+        4 => return Reading {
+            outcome: Err(Refusal::BrokenOption(place)),
+            steps,
+        },
+        5 => return Reading {
+            outcome: Err(Refusal::WrongOptionLength(place)),
+            steps,
+        },
+        6 => return Reading {
+            outcome: Err(Refusal::RepeatedOption(place)),
+            steps,
+        },
         _ => {
             let options = values::options(segment, &notes);
             let skipped = read_u8(&notes, notes::SKIPPED) as usize;
-            Reading::Segment(fixed_header::fields(segment, end, skipped, options), steps)
+            Reading {
+                outcome: Ok(fixed_header::fields(segment, end, skipped, options)),
+                steps,
+            }
         }
     }
 }
@@ -186,12 +191,11 @@ pub fn find_option<'a>(segment: &'a [u8], kinds: &[u8]) -> &'a [u8]
     ensures { IsPart result segment.entry.ref_ptr (found_option segment.now kinds.now) }
 {
     let reading = read(segment);
-    match reading {
-        Reading::Refused(_, _) => &segment[0..0],
-        Reading::Segment(whole, _) => {
-            let payload = whole.payload;
-            let end = payload.start;
+    match reading.outcome {
+        Ok(whole) => {
+            let end = whole.payload.start;
             finding::first_listed(&segment[0..end], kinds)
         }
+        Err(_) => &segment[0..0],
     }
 }

@@ -3,7 +3,9 @@
 // At each known kind stands the place in the segment of the option of that kind, 0 where there is none. The other notes stand after the last
 // known kind, 8.
 ghost use Rattle.std.specs.Prelude.{◌≡◌, get_or};
+ghost use Rattle.segment.specs.Kinds.{kind_number};
 
+use super::kinds::Kind;
 use octets::read_u8;
 
 // How many steps were taken.
@@ -19,8 +21,8 @@ pub const LAST: usize = 11;
 pub const LENGTH: usize = 12;
 
 // The place that is noted of a kind.
-pub fn place_of(notes: &[u8], kind: u8) -> u8
-    ensures { result ≡ get_or notes.now kind 0 }
+pub fn place_of(notes: &[u8], kind: Kind) -> u8
+    ensures { result ≡ get_or notes.now (kind_number kind) 0 }
 {
     read_u8(notes, kind as usize)
 }

@@ -1,11 +1,12 @@
 // The two rules that read the options: each passes what is left to the other. They answer the refusal's number, 0 where no option is at
 // fault, and note the rest.
-ghost use Rattle.std.specs.Prelude.{not, ◌≡◌, ◌≤◌, ◌<◌, drop, length};
+ghost use Rattle.std.specs.Prelude.{◌≡◌, ◌≤◌, ◌<◌, drop, length};
 ghost use Rattle.segment.specs.Grammar.{is_broken, option_rule, padding_rule};
-ghost use Rattle.segment.specs.Options.{is_known, is_wrong_length};
+ghost use Rattle.segment.specs.Options.{is_wrong_length};
+ghost use Rattle.segment.specs.Kinds.{kind_number};
 ghost use Rattle.segment.specs.Internal.{AfterNops, Answers, Room};
 
-use super::kinds::{END, MSS, NOP, SACK, SACK_PERMITTED, TIMESTAMPS, WINDOW_SCALE};
+use super::kinds::{END, Kind, NOP};
 use super::notes::{LAST, SKIPPED, STEPS};
 
 // Passes NOPs from `from` on and ends the list at kind 0 or at the header's end.
@@ -52,18 +53,18 @@ fn option_rule(header: &[u8], at: usize, notes: &mut [u8]) -> u8
     if is_broken(&header[at..]) {
         return 4;
     }
-    let kind = header[at];
+    let octet = header[at];
     let n = header[at + 1] as usize;
     let next = at + n;
-    // Neither E5 nor E6 is given for an unknown kind.
-    if is_unknown(kind) {
+    let Ok(kind) = Kind::try_from(octet) else {
+        // Neither E5 nor E6 is given for an unknown kind.
         notes[SKIPPED] += 1;
         return padding_rule(header, next, notes);
-    }
+    };
     if is_wrong_length(kind, n) {
         return 5;
     }
-    let index = kind as usize;
+    let index = octet as usize;
     if notes[index] != 0 {
         return 6;
     }
@@ -89,35 +90,18 @@ pub fn is_broken(left: &[u8]) -> bool
     left.len() < n
 }
 
-fn is_unknown(kind: u8) -> bool
-    ensures { result ≡ not (is_known kind) }
-{
-    match kind {
-        MSS => false,
-        WINDOW_SCALE => false,
-        SACK_PERMITTED => false,
-        SACK => false,
-        TIMESTAMPS => false,
-        _ => true,
-    }
-}
+// The lengths of one to four blocks.
+const SACK_LENGTHS: [usize; 4] = [10, 18, 26, 34];
 
-// E5: the kind is known, and this is not a length of it.
-fn is_wrong_length(kind: u8, n: usize) -> bool
-    ensures { result ≡ is_wrong_length kind n }
+// E5: the kind does not have this length.
+fn is_wrong_length(kind: Kind, n: usize) -> bool
+    ensures { result ≡ is_wrong_length (kind_number kind) n }
 {
     match kind {
-        MSS => n != 4,
-        WINDOW_SCALE => n != 3,
-        SACK_PERMITTED => n != 2,
-        SACK => match n {
-            10 => false,
-            18 => false,
-            26 => false,
-            34 => false,
-            _ => true,
-        },
-        TIMESTAMPS => n != 10,
-        _ => false,
+        Kind::Mss => n != 4,
+        Kind::WindowScale => n != 3,
+        Kind::SackPermitted => n != 2,
+        Kind::Sack => !SACK_LENGTHS.contains(&n),
+        Kind::Timestamps => n != 10,
     }
 }

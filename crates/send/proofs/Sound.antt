@@ -41,7 +41,7 @@ module _ (s : Send) where
     outstanding_most = omega (arith, fewer ack, sound.outstanding_most);
   }
 
-  windowed_sound : (fields : AckFields) → Sound s → Sound (windowed s fields)
+  pub windowed_sound : (fields : AckFields) → Sound s → Sound (windowed s fields)
   unfolding windowed
   windowed_sound fields sound = record {
     shift_most = sound.shift_most;

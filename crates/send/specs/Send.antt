@@ -1,13 +1,12 @@
 -- The send side: at its opening, after a segment is taken and after octets are sent, the ACKs that are dropped, and the listing rule for the
 -- peer's SACK blocks (document 01, "Opening", E12 and "What taking does"; document 02, P5).
-use Rattle.std.specs.Prelude.{Bool, cond, ◌&&◌, ◌||◌, ℕ, max, min, ◌+◌, ◌*◌, ◌^◌, eqb, leb, ltb, neg_ℤ, pos}
+use Rattle.std.specs.Prelude.{Bool, cond, ◌&&◌, ◌||◌, ℕ, max, min, ◌+◌, ◌*◌, ◌^◌, eqb, leb, ltb, neg_ℤ, pos, Result, Ok, Err}
 use Rattle.std.specs.Int.Signed.{lt_z}
 use Rattle.serial.specs.Serial.{distance_of, is_at_or_before, is_before, moved_by, offset_of}
 use Rattle.serial.specs.declared.Range.{Range}
 use Rattle.serial.specs.declared.Seq.{Seq}
 use Rattle.send.specs.declared.Send.{Send}
-use Rattle.send.specs.declared.SentAnswer.{SentAnswer}
-use Rattle.send.specs.declared.SentOutcome.{SentOutcome}
+use Rattle.send.specs.declared.SentRefused.{SentRefused}
 use Rattle.send.specs.declared.AckFields.{AckFields}
 
 -- SND.NXT = ISS+1; UNA = ISS+1 if the SYN has ACK, else ISS. SND.WND is the window unscaled. WL1 = SEQ; WL2 = ACK if the flag is set,
@@ -103,12 +102,12 @@ pub record Answer : Type 0 where
 unfoldable pub sent : Send → ℕ → Answer
 sent s n = cond (exceeds_window s n) (record { number = 12; send = s }) (record { number = 0; send = with_sent s n })
 
-abbrev pub number_of : SentOutcome → ℕ
-number_of SentOutcome.Noted = 0
-number_of SentOutcome.Refused = 12
+abbrev pub number_of : SentRefused → ℕ
+number_of why = 12
 
-abbrev pub shown : SentAnswer → Answer
-shown a = record { number = number_of a.outcome; send = a.send }
+abbrev pub shown : Send → Result Send SentRefused → Answer
+shown s (Ok t) = record { number = 0; send = t }
+shown s (Err why) = record { number = number_of why; send = s }
 
 -- with a = (left - UNA), b = (right - UNA), c = (NXT - UNA), each mod 2^32, a block is kept exactly if 0 < a < b <= c
 unfoldable pub is_listed : Send → Range → Bool

@@ -3,11 +3,13 @@
 
 #![tactic(auto)]
 
-ghost use Rattle.std.specs.Prelude.{◌≡◌, max, min, ◌≤◌};
-ghost use Rattle.send.specs.Send.{acknowledged, exceeds_window, is_current, is_later, is_listed, is_new, is_too_old, is_unsent, number_of, opened, sent, shown, taken, updates_window, windowed};
+ghost use Rattle.std.specs.Prelude.{◌≡◌, ◌≤◌, IfOk};
+ghost use Rattle.std.proofs.Common.{rules};
+ghost use Rattle.send.specs.Send.{acknowledged, exceeds_window, is_current, is_later, is_listed, is_new, is_too_old, is_unsent, number_of, opened, outstanding, sent, shown, taken, updates_window, windowed};
 ghost use Rattle.send.specs.Sound.{Sound};
 
-use serial::{Range, Seq};
+use refusals::Numbered;
+use serial::{Range, Seq, Serial};
 
 // The greatest shift of a window.
 const MAX_SHIFT: u32 = 14;
@@ -37,65 +39,38 @@ pub struct AckFields {
     pub window: u16,
 }
 
-// What noting sent octets answers.
-#[derive(Clone, Copy)]
-pub enum SentOutcome {
-    Noted,
-    // E12.
-    Refused,
-}
+// E12: more octets than the window lets be sent.
+#[derive(Clone, Copy, PartialEq, Eq)]
+pub struct SentRefused;
 
-// Where the octets are refused, the send side is the one that was passed.
-#[derive(Clone, Copy)]
-pub struct SentAnswer {
-    pub outcome: SentOutcome,
-    pub send: Send,
-}
+impl Numbered for SentRefused {
+    ghost number = { number_of };
 
-impl SentOutcome {
-    // The outcome's number, 0 or 12.
-    pub fn number(self) -> u8
-        ensures { result ≡ number_of self }
-    {
-        match self {
-            SentOutcome::Noted => 0,
-            SentOutcome::Refused => 12,
-        }
+    fn number(self) -> u8 {
+        12
     }
+
+    ghost positive = { Prim.search rules };
 }
 
 impl Send {
     // A send side at its opening by the peer's SYN, which has the ACK flag or not. A shift above 14 counts as 14.
+    #[tactic(auto, unfolding(crate::specs::Send::opened))]
     pub fn new(iss: Seq, shift: u32, syn: AckFields, flag: bool) -> Send
         ensures opened { result ≡ opened iss.0 shift syn flag }
         ensures sound { Sound result }
     {
         let nxt = iss.moved(1);
-        let shift = at_most_14(shift);
-        let window = syn.window as u32;
-        let largest = window;
-        let wl1 = syn.seq;
-        let ack = syn.ack;
-        if flag {
-            Send {
-                una: nxt,
-                nxt,
-                window,
-                largest,
-                shift,
-                wl1,
-                wl2: ack,
-            }
-        } else {
-            Send {
-                una: iss,
-                nxt,
-                window,
-                largest,
-                shift,
-                wl1,
-                wl2: iss,
-            }
+        let window = u32::from(syn.window);
+        let (una, wl2) = if flag { (nxt, syn.ack) } else { (iss, iss) };
+        Send {
+            una,
+            nxt,
+            window,
+            largest: window,
+            shift: shift.min(MAX_SHIFT),
+            wl1: syn.seq,
+            wl2,
         }
     }
 
@@ -107,28 +82,25 @@ impl Send {
     }
 
     // Whether an ACK lies farther before UNA than the largest window: verdict 31.
+    #[tactic(auto, using(crate::proofs::AckRange::too_old_tests))]
     pub fn is_too_old(self, ack: Seq) -> bool
         ensures { result ≡ is_too_old self ack.0 }
     {
         let back = self.una.offset(ack);
-        if back <= self.largest {
-            return false;
-        }
-        back <= HALF_WAY
+        self.largest < back && back <= HALF_WAY
     }
 
     // Whether an ACK is new.
+    #[tactic(auto, unfolding(crate::specs::Send::is_new))]
     pub fn is_new(self, ack: Seq) -> bool
         ensures { result ≡ is_new self ack.0 }
     {
         let forward = ack.offset(self.una);
-        if forward == 0 {
-            return false;
-        }
-        forward <= self.nxt.offset(self.una)
+        0 < forward && forward <= self.outstanding()
     }
 
     // The send side after a segment is taken.
+    #[tactic(auto, using(crate::proofs::Sound::acknowledged_sound, crate::proofs::Sound::windowed_sound), unfolding(crate::specs::Send::taken))]
     pub fn take(self, fields: AckFields) -> Send
         requires { Sound self }
         ensures taken { result ≡ taken self fields }
@@ -143,48 +115,46 @@ impl Send {
     }
 
     // Notes that `n` octets were sent, or refuses more than the window lets be sent.
-    pub fn note_sent(self, n: u32) -> SentAnswer
+    #[tactic(auto, unfolding(crate::specs::Send::sent))]
+    pub fn note_sent(self, n: u32) -> Result<Send, SentRefused>
         requires { Sound self }
-        ensures answer { shown result ≡ sent self n }
-        ensures sound { Sound result.send }
+        ensures answer { shown self result ≡ sent self n }
+        ensures sound { IfOk result Sound }
     {
         if self.exceeds_window(n) {
-            return SentAnswer {
-                outcome: SentOutcome::Refused,
-                send: self,
-            };
+            return Err(SentRefused);
         }
         let nxt = self.nxt.moved(n);
-        SentAnswer {
-            outcome: SentOutcome::Noted,
-            send: Send { nxt, ..self },
-        }
+        Ok(Send { nxt, ..self })
     }
 
     // Whether a SACK block of the peer is listed: it lies above UNA, is not empty and ends at NXT or before.
+    #[tactic(auto, unfolding(crate::specs::Send::is_listed))]
     pub fn is_listed(self, block: Range) -> bool
         ensures { result ≡ is_listed self block }
     {
         let left = block.left.offset(self.una);
         let right = block.right.offset(self.una);
-        if left == 0 {
-            return false;
-        }
-        if right <= left {
-            return false;
-        }
-        right <= self.nxt.offset(self.una)
+        0 < left && left < right && right <= self.outstanding()
+    }
+
+    // The octets that were sent and are not acknowledged.
+    fn outstanding(self) -> u32
+        ensures { result ≡ outstanding self }
+    {
+        self.nxt.offset(self.una)
     }
 
     // E12.
+    #[tactic(auto, unfolding(crate::specs::Send::exceeds_window))]
     fn exceeds_window(self, n: u32) -> bool
         ensures { result ≡ exceeds_window self n }
     {
-        let outstanding = self.nxt.offset(self.una);
-        (self.window as u64) < (outstanding as u64) + (n as u64)
+        u64::from(self.window) < u64::from(self.outstanding()) + u64::from(n)
     }
 
     // UNA moved by a new ACK.
+    #[tactic(auto, unfolding(crate::specs::Send::acknowledged))]
     fn acknowledged(self, ack: Seq) -> Send
         ensures { result ≡ acknowledged self ack }
     {
@@ -196,64 +166,41 @@ impl Send {
     }
 
     // Whether an ACK is new, or repeats the last.
+    #[tactic(auto, unfolding(crate::specs::Send::is_current))]
     fn is_current(self, ack: Seq) -> bool
         ensures { result ≡ is_current self ack.0 }
     {
-        if self.is_new(ack) {
-            return true;
-        }
-        ack.0 == self.una.0
+        self.is_new(ack) || ack == self.una
     }
 
     // Whether the segment comes after the one that last set the window.
+    #[tactic(auto, unfolding(crate::specs::Send::is_later))]
     fn is_later(self, fields: AckFields) -> bool
         ensures { result ≡ is_later self fields }
     {
-        if self.wl1.before(fields.seq) {
-            return true;
-        }
-        if self.wl1.0 != fields.seq.0 {
-            return false;
-        }
-        self.wl2.at_or_before(fields.ack)
+        self.wl1.before(fields.seq) || self.wl1 == fields.seq && self.wl2.at_or_before(fields.ack)
     }
 
+    #[tactic(auto, unfolding(crate::specs::Send::updates_window))]
     fn updates_window(self, fields: AckFields) -> bool
         ensures { result ≡ updates_window self fields }
     {
-        if self.is_current(fields.ack) {
-            return self.is_later(fields);
-        }
-        false
+        self.is_current(fields.ack) && self.is_later(fields)
     }
 
     // The segment's window, and its SEQ and ACK.
+    #[tactic(auto, unfolding(crate::specs::Send::windowed))]
     fn windowed(self, fields: AckFields) -> Send
         requires { self.shift ≤ 14 }
         ensures { result ≡ windowed self fields }
     {
-        let window = (fields.window as u32) << self.shift;
-        let largest = larger(self.largest, window);
-        let wl1 = fields.seq;
-        let wl2 = fields.ack;
+        let window = u32::from(fields.window) << self.shift;
         Send {
             window,
-            largest,
-            wl1,
-            wl2,
+            largest: self.largest.max(window),
+            wl1: fields.seq,
+            wl2: fields.ack,
             ..self
         }
     }
-}
-
-fn larger(a: u32, b: u32) -> u32
-    ensures { result ≡ max a b }
-{
-    if a < b { b } else { a }
-}
-
-fn at_most_14(shift: u32) -> u32
-    ensures { result ≡ min shift 14 }
-{
-    if shift < MAX_SHIFT { shift } else { MAX_SHIFT }
 }

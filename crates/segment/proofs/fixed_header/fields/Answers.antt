@@ -6,13 +6,13 @@ pub returns : goal.returns
 unfolding segment_of
 returns c =
     rw (
-      c.read_u16-source.ensures,
-      c.read_u16-destination.ensures,
-      c.read_u32.ensures,
-      c.read_u32-2.ensures,
+      c.read-source.ensures,
+      c.read-destination.ensures,
+      c.read.ensures,
+      c.read-2.ensures,
       c.len-len.ensures,
       c.flags-flags.ensures,
       c.read_u8.ensures,
-      c.read_u16-window.ensures,
-      c.read_u16-urgent.ensures,
+      c.read-window.ensures,
+      c.read-urgent.ensures,
     )

@@ -6,11 +6,11 @@ use mathlib.Core.Path.{◌≡◌, refl, sym, ◌∙◌}
 use Prim.Native.Nat.{ℕ, ◌+◌, ◌-◌, ◌≤◌, ◌<◌}
 use native.Mathlib.Omega.{arith}
 use lib.ListN.{drop, get_or, length, set}
-use borrow.Author.Tests.{not-false, not-true}
 use Rattle.segment.specs.Grammar.{is_broken, option_rule, padding_rule}
 use Rattle.segment.specs.Options.{is_known, is_wrong_length}
 use Rattle.segment.specs.Internal.{Answers}
 use Rattle.segment.proofs.ByOctet.{octets_least, octets_most, to_the_end}
+use Rattle.segment.proofs.KindsKnown.{kind_known}
 use Rattle.segment.proofs.Noting.{known_most, room_placed, room_skipping, started, started_last, started_noted, started_size, started_steps, stepped, stepped_noted, stepped_size, stepped_steps}
 use Rattle.segment.proofs.Outcomes.{at_broken, at_end, at_known, at_option, at_past, at_repeated, at_skipped, at_wrong}
 use Rattle.segment.proofs.rules.+option_rule_padding_rule.Goals as goal
@@ -51,28 +51,27 @@ option_rule-padding_rule-requires t c =
     let room = room_skipping a.notes.now a.at c.requires.1 _ there.0 in
     (omega (arith, there, c.decreases), (omega (arith, there), room, there.1, c.requires.3))
 
-pub option_rule-returns-then-is_unknown : goal.option_rule-returns-then-is_unknown
-option_rule-returns-then-is_unknown t c = λ before p.
+pub option_rule-returns-in_default : goal.option_rule-returns-in_default
+option_rule-returns-in_default t c = λ before p.
     let a = c.args in
     let notes = a.notes.now in
     let size = c.requires.1.octets in
     let unbroken = sym (rw (to_the_end a.at a.header.now) at c.is_broken.ensures) ∙ c.if-is_broken.false in
-    let unknown = not-true _ (sym c.is_unknown.ensures ∙ c.if-is_unknown.true) in
     at_skipped before _ a.header.now a.at unbroken (started notes size a.at) (started_size notes size a.at)
-    (started_noted notes size a.at before p) c.requires.0 (started_steps notes size a.at) _ _ unknown c.padding_rule.ensures
+    (started_noted notes size a.at before p) c.requires.0 (started_steps notes size a.at) _ _ c.in_default.ensures c.padding_rule.ensures
 
 pub option_rule-returns-then-is_wrong_length : goal.option_rule-returns-then-is_wrong_length
 option_rule-returns-then-is_wrong_length t c = λ before p.
     let a = c.args in
     let size = c.requires.1.octets in
     let unbroken = sym (rw (to_the_end a.at a.header.now) at c.is_broken.ensures) ∙ c.if-is_broken.false in
-    let wrong = sym c.is_wrong_length.ensures ∙ c.if-is_wrong_length.true in
+    let wrong = rw c.in-Ok.ensures at (sym c.is_wrong_length.ensures ∙ c.if-is_wrong_length.true) in
     at_wrong before _ a.header.now a.at _ (started_last a.notes.now size a.at) (started_steps a.notes.now size a.at) unbroken wrong
 
 pub option_rule-bounds-notes-index : goal.option_rule-bounds-notes-index
 option_rule-bounds-notes-index t c =
     let a = c.args in
-    let known = not-false _ (sym c.is_unknown.ensures ∙ c.if-is_unknown.false) in
+    let known = rw c.in-Ok.ensures at (kind_known c.in-Ok.kind) in
     omega (arith, started_size a.notes.now c.requires.1.octets a.at, known_most _ known)
 
 pub option_rule-returns-then-notes-index-ne0 : goal.option_rule-returns-then-notes-index-ne0
@@ -81,23 +80,23 @@ option_rule-returns-then-notes-index-ne0 t c = λ before p.
     let size = c.requires.1.octets in
     let notes = a.notes.now in
     let unbroken = sym (rw (to_the_end a.at a.header.now) at c.is_broken.ensures) ∙ c.if-is_broken.false in
-    let known = not-false _ (sym c.is_unknown.ensures ∙ c.if-is_unknown.false) in
-    let right = sym c.is_wrong_length.ensures ∙ c.if-is_wrong_length.false in
+    let known = rw c.in-Ok.ensures at (kind_known c.in-Ok.kind) in
+    let right = rw c.in-Ok.ensures at (sym c.is_wrong_length.ensures ∙ c.if-is_wrong_length.false) in
     at_repeated before _ a.header.now a.at _ (started_last notes size a.at) (started_steps notes size a.at) unbroken right known
     (started_noted notes size a.at before p) c.if-notes-index-ne0.true
 
 pub option_rule-bounds-notes-index-2 : goal.option_rule-bounds-notes-index-2
 option_rule-bounds-notes-index-2 t c =
     let a = c.args in
-    let known = not-false _ (sym c.is_unknown.ensures ∙ c.if-is_unknown.false) in
+    let known = rw c.in-Ok.ensures at (kind_known c.in-Ok.kind) in
     omega (arith, started_size a.notes.now c.requires.1.octets a.at, known_most _ known)
 
 pub option_rule-returns-then-header-next : goal.option_rule-returns-then-header-next
 option_rule-returns-then-header-next t c =
     let a = c.args in
     let unbroken = sym (rw (to_the_end a.at a.header.now) at c.is_broken.ensures) ∙ c.if-is_broken.false in
-    let known = not-false _ (sym c.is_unknown.ensures ∙ c.if-is_unknown.false) in
-    let right = sym c.is_wrong_length.ensures ∙ c.if-is_wrong_length.false in
+    let known = rw c.in-Ok.ensures at (kind_known c.in-Ok.kind) in
+    let right = rw c.in-Ok.ensures at (sym c.is_wrong_length.ensures ∙ c.if-is_wrong_length.false) in
     with_place a.header.now a.notes.now a.at c.requires.1.octets c.requires.0 unbroken known right (omega (arith, c.if-notes-index-ne0.false)) 0 _
     (λ before p. at_past before _ _ _ c.if-header-next.true _ p refl)
 
@@ -105,7 +104,7 @@ pub option_rule-padding_rule-requires-2 : goal.option_rule-padding_rule-requires
 option_rule-padding_rule-requires-2 t c =
     let a = c.args in
     let unbroken = sym (rw (to_the_end a.at a.header.now) at c.is_broken.ensures) ∙ c.if-is_broken.false in
-    let known = not-false _ (sym c.is_unknown.ensures ∙ c.if-is_unknown.false) in
+    let known = rw c.in-Ok.ensures at (kind_known c.in-Ok.kind) in
     let there = fits a.header.now a.at unbroken in
     let room = room_placed a.notes.now a.at c.requires.1 _ there.0 _ known in
     (omega (arith, there, c.decreases), (omega (arith, there), room, there.1, c.requires.3))
@@ -114,8 +113,8 @@ pub option_rule-returns : goal.option_rule-returns
 option_rule-returns t c =
     let a = c.args in
     let unbroken = sym (rw (to_the_end a.at a.header.now) at c.is_broken.ensures) ∙ c.if-is_broken.false in
-    let known = not-false _ (sym c.is_unknown.ensures ∙ c.if-is_unknown.false) in
-    let right = sym c.is_wrong_length.ensures ∙ c.if-is_wrong_length.false in
+    let known = rw c.in-Ok.ensures at (kind_known c.in-Ok.kind) in
+    let right = rw c.in-Ok.ensures at (sym c.is_wrong_length.ensures ∙ c.if-is_wrong_length.false) in
     with_place a.header.now a.notes.now a.at c.requires.1.octets c.requires.0 unbroken known right (omega (arith, c.if-notes-index-ne0.false)) _ _
     c.padding_rule-2.ensures
 

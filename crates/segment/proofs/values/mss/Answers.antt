@@ -1,8 +1,8 @@
 -- The value stands after kind and length. Assumes nothing.
 use mathlib.Core.Path.{sym, ap, ◌∙◌}
 use native.Mathlib.Omega.{arith}
+use Rattle.std.specs.Prelude.{Some}
 use Rattle.segment.specs.Options.{mss_of}
-use Rattle.segment.specs.declared.Mss.{Mss}
 use Rattle.segment.proofs.Standing.{none_there, number_there, one_there}
 use Rattle.segment.proofs.values.mss.Goals as goal
 
@@ -14,5 +14,5 @@ returns-then-place-eq0 c = λ f e stands.
 pub returns : goal.returns
 returns c = λ f e stands.
     let there = one_there c.args.segment.now 2 4 _ f e stands c.if-place-eq0.false in
-    let value = c.read_u16.ensures ∙ number_there there.2 2 2 (omega (arith, there.2.least)) in
-    ap Mss.Octets value ∙ sym (ap mss_of there.1)
+    let value = c.read.ensures ∙ number_there there.2 2 2 (omega (arith, there.2.least)) in
+    ap Some value ∙ sym (ap mss_of there.1)

@@ -1,52 +1,45 @@
--- The length octet says how many blocks follow the first. Assumes nothing.
-use mathlib.Core.List.{List}
+-- The length octet says how many blocks there are. Assumes nothing.
+use mathlib.Core.List.{[], ◌∷◌, ◌++◌}
 use mathlib.Core.Path.{◌≡◌, sym, ap, ◌∙◌}
-use Prim.Native.Nat.{ℕ}
+use Prim.Native.Nat.{ℕ, suc, ◌+◌, ◌-◌, ◌/◌}
+use native.Mathlib.Numerals.{add-one}
 use native.Mathlib.Omega.{arith}
-use lib.ListN.{length}
-use Rattle.segment.specs.Options.{Found, blocks_of, found}
-use Rattle.segment.specs.Internal.{Stands, StandsIf, place_of}
-use Rattle.segment.specs.declared.SackBlocks.{SackBlocks}
-use Rattle.segment.proofs.Blocks.{block_there, four_blocks, one_block, three_blocks, two_blocks}
+use lib.ListN.{length, take}
+use Rattle.segment.specs.Options.{blocks_from, blocks_of}
+use Rattle.segment.proofs.Blocks.{blocks_there, one_more_block, take_more}
 use Rattle.segment.proofs.Standing.{none_there, one_there}
 use Rattle.segment.proofs.values.sack_blocks.Goals as goal
 
 pub returns-then-place-eq0 : goal.returns-then-place-eq0
 returns-then-place-eq0 c = λ f e stands.
+    c.none.ensures ∙ sym (ap blocks_of (none_there c.args.segment.now 5 10 _ f e stands c.if-place-eq0.true))
+
+pub loop-i-init : goal.loop-i-init
+unfolding blocks_from
+loop-i-init c = c.none-blocks.ensures
+
+pub loop-i-preserved : goal.loop-i-preserved
+loop-i-preserved c =
     let s = c.args.segment.now in
-    sym (ap blocks_of (none_there s 5 10 _ f e stands c.if-place-eq0.true))
-
-pub returns-then-n-lt18 : goal.returns-then-n-lt18
-returns-then-n-lt18 c = λ f e stands.
-    let o = (let option_there : let a = c.args in (f : Found) → a.place ≡ place_of f → StandsIf a.segment.now 5 10 f → (octets : List ℕ) × (f ≡ found a.place octets) × Stands a.segment.now 5 10 a.place octets × (c.read_u8-n.result ≡ length octets) = λ f e stands. let there = one_there c.args.segment.now 5 10 _ f e stands c.if-place-eq0.false in let size = c.read_u8-n.ensures ∙ sym (there.2.inside.octets_there 1 (omega (arith, there.2.least))) ∙ there.2.inside.length_counted in (there.0, there.1, there.2, size) in option_there) f e stands in
-    let first = c.block-first.ensures ∙ block_there o.2 2 (omega (arith, o.2.least)) in
-    ap SackBlocks.One first ∙ sym (ap blocks_of o.1 ∙ one_block o.0 (omega (arith, o.3, c.if-n-lt18.true)))
-
-pub returns-then-n-lt26 : goal.returns-then-n-lt26
-returns-then-n-lt26 c = λ f e stands.
-    let o = (let option_there : let a = c.args in (f : Found) → a.place ≡ place_of f → StandsIf a.segment.now 5 10 f → (octets : List ℕ) × (f ≡ found a.place octets) × Stands a.segment.now 5 10 a.place octets × (c.read_u8-n.result ≡ length octets) = λ f e stands. let there = one_there c.args.segment.now 5 10 _ f e stands c.if-place-eq0.false in let size = c.read_u8-n.ensures ∙ sym (there.2.inside.octets_there 1 (omega (arith, there.2.least))) ∙ there.2.inside.length_counted in (there.0, there.1, there.2, size) in option_there) f e stands in
-    let long = c.if-n-lt18.false in
-    let first = c.block-first.ensures ∙ block_there o.2 2 (omega (arith, o.2.least)) in
-    let second = c.block-second.ensures ∙ block_there o.2 10 (omega (arith, o.3, long)) in
-    (λ i. SackBlocks.Two (first i) (second i))
-    ∙ sym (ap blocks_of o.1 ∙ two_blocks o.0 (omega (arith, o.3, long)) (omega (arith, o.3, c.if-n-lt26.true)))
-
-pub returns-then-n-lt34 : goal.returns-then-n-lt34
-returns-then-n-lt34 c = λ f e stands.
-    let o = (let option_there : let a = c.args in (f : Found) → a.place ≡ place_of f → StandsIf a.segment.now 5 10 f → (octets : List ℕ) × (f ≡ found a.place octets) × Stands a.segment.now 5 10 a.place octets × (c.read_u8-n.result ≡ length octets) = λ f e stands. let there = one_there c.args.segment.now 5 10 _ f e stands c.if-place-eq0.false in let size = c.read_u8-n.ensures ∙ sym (there.2.inside.octets_there 1 (omega (arith, there.2.least))) ∙ there.2.inside.length_counted in (there.0, there.1, there.2, size) in option_there) f e stands in
-    let long = c.if-n-lt26.false in
-    let first = c.block-first.ensures ∙ block_there o.2 2 (omega (arith, o.2.least)) in
-    let second = c.block-second.ensures ∙ block_there o.2 10 (omega (arith, o.3, long)) in
-    let third = c.block-third.ensures ∙ block_there o.2 18 (omega (arith, o.3, long)) in
-    (λ i. SackBlocks.Three (first i) (second i) (third i))
-    ∙ sym (ap blocks_of o.1 ∙ three_blocks o.0 (omega (arith, o.3, long)) (omega (arith, o.3, c.if-n-lt34.true)))
+    let at = c.args.place + 2 in
+    let l = c.loop-i in
+    c.push.ensures
+    ∙ (λ j. take 4 (l.invariant j ++ (c.block.ensures j ∷ [])))
+    ∙ take_more 4 (blocks_from l.i s at) _
+    ∙ ap (take 4) (sym (one_more_block l.i s at))
+    ∙ ap (λ (n : ℕ). take 4 (blocks_from n s at)) (sym (add-one l.i))
 
 pub returns : goal.returns
+unfolding blocks_from
 returns c = λ f e stands.
-    let o = (let option_there : let a = c.args in (f : Found) → a.place ≡ place_of f → StandsIf a.segment.now 5 10 f → (octets : List ℕ) × (f ≡ found a.place octets) × Stands a.segment.now 5 10 a.place octets × (c.read_u8-n.result ≡ length octets) = λ f e stands. let there = one_there c.args.segment.now 5 10 _ f e stands c.if-place-eq0.false in let size = c.read_u8-n.ensures ∙ sym (there.2.inside.octets_there 1 (omega (arith, there.2.least))) ∙ there.2.inside.length_counted in (there.0, there.1, there.2, size) in option_there) f e stands in
-    let long = c.if-n-lt34.false in
-    let first = c.block-first.ensures ∙ block_there o.2 2 (omega (arith, o.2.least)) in
-    let second = c.block-second.ensures ∙ block_there o.2 10 (omega (arith, o.3, long)) in
-    let third = c.block-third.ensures ∙ block_there o.2 18 (omega (arith, o.3, long)) in
-    let fourth = c.block.ensures ∙ block_there o.2 26 (omega (arith, o.3, long)) in
-    (λ i. SackBlocks.Four (first i) (second i) (third i) (fourth i)) ∙ sym (ap blocks_of o.1 ∙ four_blocks o.0 (omega (arith, o.3, long)))
+    let s = c.args.segment.now in
+    let at = c.args.place + 2 in
+    let there = one_there s 5 10 _ f e stands c.if-place-eq0.false in
+    let octets = there.0 in
+    let size = c.read_u8.ensures ∙ sym (there.2.inside.octets_there 1 (omega (arith, there.2.least))) ∙ there.2.inside.length_counted in
+    let later = (length octets - 10) / 8 in
+    let all : c.loop-i.i ≡ suc later = omega (arith, size, there.2.least, c.saturating_sub-count.ensures, c.loop-i-test.false, c.loop-i.auto.i-end) in
+    c.loop-i.invariant
+    ∙ ap (λ (n : ℕ). take 4 (blocks_from n s at)) all
+    ∙ ap (take 4) (blocks_there there.2 (suc later) 2 (omega (arith, there.2.least)))
+    ∙ sym (ap blocks_of there.1)

@@ -1,8 +1,8 @@
 -- TSval, then TSecr. Assumes nothing.
 use mathlib.Core.Path.{sym, ap, ◌∙◌}
 use native.Mathlib.Omega.{arith}
+use Rattle.std.specs.Prelude.{Some}
 use Rattle.segment.specs.Options.{timestamps_of}
-use Rattle.segment.specs.declared.Timestamps.{Timestamps}
 use Rattle.segment.proofs.Standing.{none_there, number_there, one_there}
 use Rattle.segment.proofs.values.timestamps.Goals as goal
 
@@ -14,6 +14,6 @@ returns-then-place-eq0 c = λ f e stands.
 pub returns : goal.returns
 returns c = λ f e stands.
     let there = one_there c.args.segment.now 8 10 _ f e stands c.if-place-eq0.false in
-    let value = c.read_u32.ensures ∙ number_there there.2 4 2 (omega (arith, there.2.least)) in
-    let echo = c.read_u32-2.ensures ∙ number_there there.2 4 6 (omega (arith, there.2.least)) in
-    (λ i. Timestamps.Pair (record { 0 = value i }) (record { 0 = echo i })) ∙ sym (ap timestamps_of there.1)
+    let value = c.read.ensures ∙ number_there there.2 4 2 (omega (arith, there.2.least)) in
+    let echo = c.read-2.ensures ∙ number_there there.2 4 6 (omega (arith, there.2.least)) in
+    (λ i. Some (record { value = record { 0 = value i }; echoed = record { 0 = echo i } })) ∙ sym (ap timestamps_of there.1)
