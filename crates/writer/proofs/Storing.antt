@@ -1,19 +1,14 @@
 -- What the writer's stores leave, part by part. Assumes nothing.
-use mathlib.Core.Bool.{Bool, true, false, cond}
-use mathlib.Core.List.{List, [], ◌∷◌, ◌++◌, append_assoc}
-use mathlib.Core.Path.{◌≡◌, refl, ap, ◌∙◌}
-use Prim.Native.Nat.{ℕ, ◌+◌, ◌*◌, ◌/◌, ◌≤◌}
+use mathlib.Core.List.{List, ◌++◌}
+use mathlib.Core.Path.{◌≡◌, ap, ◌∙◌}
+use Prim.Native.Nat.{ℕ, ◌+◌, ◌/◌, ◌≤◌}
 use native.Mathlib.Omega.{arith}
-use lib.ListN.{length, length-append, take}
+use lib.ListN.{length}
 use lib.Seq.{sets}
-use Rattle.serial.specs.declared.Range.{Range}
-use Rattle.serial.specs.declared.Stamp.{Stamp}
-use Rattle.octets.specs.Octets.{big_endian, stored}
-use Rattle.octets.proofs.ReadBack.{length_big_endian}
+use Rattle.octets.specs.Octets.{stored}
 use Rattle.octets.proofs.Stores.{sets_front, sets_then}
 use Rattle.segment.specs.declared.Options.{Options}
-use Rattle.segment.specs.declared.Timestamps.{Timestamps}
-use Rattle.writer.specs.Writing.{block_room, blocks_written, fitting, header_written, mss_written, options_written, others_written, sack_written, scale_written, timestamps_written, written}
+use Rattle.writer.specs.Writing.{header_written, options_written, written}
 use Rattle.writer.specs.declared.Header.{Header}
 use Rattle.writer.proofs.Lengths.{aligned_options, length_header, length_written}
 

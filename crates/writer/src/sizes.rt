@@ -18,7 +18,11 @@ fn others_size(options: &Options) -> usize
 {
     let mss = size_if(options.mss.is_some(), 4);
     let permitted = size_if(options.permitted, 4);
-    let timestamps = if options.timestamps.is_some() { 12 } else { permitted };
+    let timestamps = if options.timestamps.is_some() {
+        12
+    } else {
+        permitted
+    };
     let scale = size_if(options.scale.is_some(), 4);
     mss + timestamps + scale
 }

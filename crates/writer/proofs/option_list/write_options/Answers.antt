@@ -1,9 +1,7 @@
 -- `option_list::write_options` meets its contract. Assumes nothing.
-use mathlib.Core.List.{◌++◌}
 use mathlib.Core.Path.{subst, sym}
 use Rattle.std.proofs.Common.{rules}
 use Rattle.writer.specs.Cursor.{HasRoom, Writes}
-use Rattle.writer.specs.Writing.{options_written, sack_written}
 use Rattle.writer.proofs.Lengths.{few_fit}
 use Rattle.writer.proofs.OptionOctets.{in_order}
 use Rattle.writer.proofs.Runs.{room_first, room_then, writes_then}

@@ -2,7 +2,6 @@
 use mathlib.Core.Path.{sym, subst, ◌≡◌}
 use Prim.Native.Nat.{◌<◌}
 use native.Mathlib.Omega.{arith}
-use native.Mathlib.Numerals.{add-one}
 use lib.ListN.{length}
 use lib.Seq.{take_all}
 use Rattle.std.proofs.lemmas.Bool.Decides.{nat_tests}
@@ -36,8 +35,7 @@ put_pair-requires c =
 
 pub loop-block-preserved : goal.loop-block-preserved
 loop-block-preserved c =
-    let i = c.loop-block.block-index in
-    (
+    let i = c.loop-block.block-index in (
       subst (Writes _ _) (sym (blocks_more c.args.blocks.now i _ c.loop-block-test.true)) (writes_then c.loop-block.invariant.0 c.put_pair.ensures),
       room_then c.put_pair.ensures _ (subst (HasRoom _) (blocks_left c.args.blocks.now i _ c.loop-block-test.true) c.loop-block.invariant.1),
     )

@@ -1,7 +1,7 @@
 -- `option_list::write_timestamps` meets its contract. Assumes nothing.
 use native.Mathlib.Omega.{arith}
 use Rattle.writer.specs.Writing.{timestamps_written}
-use Rattle.writer.proofs.Runs.{room_first, room_then, writes_none, writes_then}
+use Rattle.writer.proofs.Runs.{room_then, writes_none, writes_then}
 use Rattle.writer.proofs.option_list.write_timestamps.Goals as goal
 
 pub put-requires : goal.put-requires

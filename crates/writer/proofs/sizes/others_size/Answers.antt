@@ -19,8 +19,8 @@ returns c =
     c.size_if-mss.ensures ∙ ap (λ t. cond t 4 0) c.is_some.ensures ∙ sym (length_mss o.mss) in
     let by_stamps = length_timestamps o.permitted o.timestamps ∙ ap (λ t. cond t 12 (cond o.permitted 4 0)) (sym c.is_some-2.ensures) in
     let second : c.if-is_some.timestamps ≡ length stamps = elim c.if-is_some.branch [
-      then-is_some w ↦ w.timestamps-is ∙ sym (by_stamps ∙ ap (λ t. cond t 12 (cond o.permitted 4 0)) w.if-is_some.true)
-    | else-is_some w ↦ w.timestamps-is ∙ c.size_if-permitted.ensures ∙ sym (by_stamps ∙ ap (λ t. cond t 12 (cond o.permitted 4 0)) w.if-is_some.false)
+      | then-is_some w ↦ w.timestamps-is ∙ sym (by_stamps ∙ ap (λ t. cond t 12 (cond o.permitted 4 0)) w.if-is_some.true)
+      | else-is_some w ↦ w.timestamps-is ∙ c.size_if-permitted.ensures ∙ sym (by_stamps ∙ ap (λ t. cond t 12 (cond o.permitted 4 0)) w.if-is_some.false)
     ] in
     let third : c.size_if-scale.result ≡ length (scale_written o.scale) =
     c.size_if-scale.ensures ∙ ap (λ t. cond t 4 0) c.is_some-3.ensures ∙ sym (length_scale o.scale) in
