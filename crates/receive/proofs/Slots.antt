@@ -29,9 +29,9 @@ pub canonical_held : (l : List Range) → length l ≤ 8 → Canonical (held_of 
 unfolding held_of
 canonical_held l h = record { few = h; form = ap held_of (sym (ranges_held l)) }
 
-pub ranges_most : (h : Held) → h.count ≤ 8 → length (ranges_of h) ≤ 8
+pub ranges_most : (h : Held) → length h.ranges ≡ 8 → length (ranges_of h) ≤ 8
 unfolding ranges_of
-ranges_most h few = omega (arith, length-take h.count h.ranges)
+ranges_most h eight = omega (arith, length-take h.count h.ranges)
 
 pub length_ranges : (h : Held) → Canonical h → length (ranges_of h) ≡ h.count
 length_ranges h k = sym (count_is h (ranges_of h) k.form)

@@ -5,7 +5,7 @@
 
 mod ranges;
 
-ghost use Rattle.std.specs.Prelude.{true, ◌≡◌, ◌≤◌, ◌<◌, IfOk};
+ghost use Rattle.std.specs.Prelude.{◌≡◌, ◌≤◌, ◌<◌, IfOk, IsTrue};
 ghost use Rattle.std.proofs.Common.{rules};
 ghost use Rattle.receive.specs.Ranges.{is_out_of_order};
 ghost use Rattle.receive.specs.Sound.{Sound};
@@ -109,7 +109,7 @@ impl Receive {
     }
 
     // Whether the FIN of a segment, which is its last number, lies in its new part.
-    #[tactic(auto, using(crate::proofs::Parts::nothing_sent, crate::proofs::Parts::none_lies), unfolding(crate::specs::Window::fin_inside))]
+    #[tactic(auto, using(crate::proofs::Parts::no_fin), unfolding(crate::specs::Window::fin_inside))]
     pub fn has_fin(self, seq: Seq, len: u32, fin: bool) -> bool
         ensures { result ≡ fin_inside self seq.0 len fin }
     {
@@ -187,9 +187,8 @@ impl Receive {
         requires { 0 < len }
         ensures { result ≡ part_end self seq.0 len }
     {
-        self.last_offset(seq, len)
-            .saturating_add(1)
-            .min(self.window)
+        let past = self.last_offset(seq, len).saturating_add(1);
+        past.min(self.window)
     }
 
     // E13.
@@ -236,8 +235,9 @@ impl Receive {
     // The part joined with the ranges that it meets, put first among the others.
     #[tactic(auto, using(crate::proofs::Room::put_after, crate::proofs::Room::unmet_most, crate::proofs::Slots::canonical_held, crate::proofs::Slots::ranges_held), unfolding(crate::specs::Taking::holding, crate::specs::Internal::absorbed_of))]
     fn holding(self, part: Part) -> Receive
-        requires { Sound self }
-        ensures { is_out_of_order part ≡ true → result ≡ holding self part }
+        requires sound { Sound self }
+        requires out_of_order { IsTrue (is_out_of_order part) }
+        ensures { result ≡ holding self part }
     {
         let absorbed = self.held.absorb(self.nxt, part);
         let range = absorbed.part.range(self.nxt);

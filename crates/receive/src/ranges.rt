@@ -1,5 +1,5 @@
 // The held ranges: those that a part meets, and the others.
-ghost use Rattle.std.specs.Prelude.{◌≡◌, [], ◌≤◌};
+ghost use Rattle.std.specs.Prelude.{◌≡◌, []};
 ghost use Rattle.std.specs.List.{list_any};
 ghost use Rattle.receive.specs.Ranges.{held_of, is_out_of_order, lies_in, meets, range_of, ranges_of};
 ghost use Rattle.receive.specs.Sound.{Canonical};
@@ -73,18 +73,16 @@ impl Held {
         }
     }
 
-    // The ranges that are held.
+    // The ranges that are held, all eight where the count is above.
     #[tactic(auto, unfolding(crate::specs::Ranges::ranges_of))]
-    fn as_slice(&self) -> &[Range]
-        requires { self.now.count ≤ 8 }
+    pub fn as_slice(&self) -> &[Range]
         ensures { result.now ≡ ranges_of self.now }
     {
-        &self.ranges[..self.count]
+        &self.ranges[..self.count.min(8)]
     }
 
     // Whether the part overlaps or touches a range.
     pub(crate) fn meets_any(&self, nxt: Seq, part: Part) -> bool
-        requires { self.now.count ≤ 8 }
         ensures { result ≡ list_any (meets nxt.0 part) (ranges_of self.now) }
     {
         self.as_slice().iter().any(|range| part.meets(nxt, *range))
@@ -105,7 +103,6 @@ impl Held {
 
     // The part joined with the ranges that it meets, and the other ranges in their order.
     pub(crate) fn absorb(&self, nxt: Seq, part: Part) -> Absorbed
-        requires { self.now.count ≤ 8 }
         ensures { result ≡ absorbed_of nxt.0 part (ranges_of self.now) }
     {
         let mut absorbed = Absorbed {

@@ -39,13 +39,13 @@ loop-range-preserved-then-meets c =
 pub with_first-absorbed-requires : goal.with_first-absorbed-requires
 with_first-absorbed-requires c =
     let turn = YieldsList-turn (YieldsList-from_rev_slice (ranges_of c.args.self.now) cc) c.loop-range.yielded _ c.loop-range.yielded_by _ _ c.in-Some.range c.in-Some.is c.next.ensures.steps in
-    let few = fewer c.loop-range.yielded _ (ranges_most _ c.requires) turn.0 in
+    let few = fewer c.loop-range.yielded _ (ranges_most c.args.self.now (omega arith)) turn.0 in
     rest_canonical _ _ _ _ c.loop-range.invariant (omega (arith, few))
 
 pub loop-range-preserved : goal.loop-range-preserved
 loop-range-preserved c =
     let turn = YieldsList-turn (YieldsList-from_rev_slice (ranges_of c.args.self.now) cc) c.loop-range.yielded _ c.loop-range.yielded_by _ _ c.in-Some.range c.in-Some.is c.next.ensures.steps in
-    let few = fewer c.loop-range.yielded _ (ranges_most _ c.requires) turn.0 in
+    let few = fewer c.loop-range.yielded _ (ranges_most c.args.self.now (omega arith)) turn.0 in
     rw (one_more c.loop-range.yielded c.in-Some.range)
     (one_unmet _ _ _ _ c.loop-range.invariant _ (sym c.meets.ensures ∙ c.if-meets.false) few _ c.with_first-absorbed.ensures)
 
