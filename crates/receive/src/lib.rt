@@ -21,11 +21,14 @@ const MAX_FIELD: u32 = 65535;
 
 const MAX_SHIFT: u32 = 14;
 
+// The most ranges that can be held.
+const SLOTS: usize = 8;
+
 // The first `count` ranges are held, newest first; the other slots are unused, and all alike. No invariant says so: `is_acceptable`,
 // `new_part` and `has_fin` take any receive side, sound or not.
 #[derive(Clone, Copy)]
 pub struct Held {
-    pub ranges: [Range; 8],
+    pub ranges: [Range; SLOTS],
     pub count: usize,
 }
 
@@ -122,7 +125,7 @@ impl Receive {
         requires { Sound self }
         ensures { result ≡ lacks_room self seq.0 len }
     {
-        if self.held.count < 8 {
+        if self.held.count < SLOTS {
             return false;
         }
         let part = self.new_part(seq, len);
@@ -130,7 +133,7 @@ impl Receive {
     }
 
     // The receive side after the new part of a segment is taken.
-    #[tactic(auto, using(crate::proofs::Parts::part_within, crate::proofs::Taken::holding_near), unfolding(crate::specs::Taking::taken))]
+    #[tactic(auto, using(crate::proofs::Parts::part_within, crate::proofs::Taken::advanced_keeps, crate::proofs::Taken::holding_keeps, crate::proofs::Taken::holding_near), unfolding(crate::specs::Taking::taken))]
     pub fn take(self, seq: Seq, len: u32) -> Receive
         requires { Sound self }
         ensures taken { result ≡ taken self (new_part self seq.0 len) }

@@ -6,7 +6,7 @@ ghost use Rattle.receive.specs.Sound.{Canonical};
 ghost use Rattle.receive.specs.Internal.{absorbed_of, with_first};
 ghost use Rattle.receive.specs.Window.{empty_part};
 
-use super::{Held, Part};
+use super::{Held, Part, SLOTS};
 use serial::{Range, Seq, Serial};
 
 // A part joined with the ranges that it meets, and the other ranges.
@@ -68,7 +68,7 @@ impl Held {
             right: Seq(0),
         };
         Held {
-            ranges: [unused; 8],
+            ranges: [unused; SLOTS],
             count: 0,
         }
     }
@@ -78,7 +78,7 @@ impl Held {
     pub fn as_slice(&self) -> &[Range]
         ensures { result.now ≡ ranges_of self.now }
     {
-        &self.ranges[..self.count.min(8)]
+        &self.ranges[..self.count.min(SLOTS)]
     }
 
     // Whether the part overlaps or touches a range.
@@ -89,11 +89,12 @@ impl Held {
     }
 
     // The ranges with one more put first; where no slot is left, as they were.
+    #[tactic(auto, using(crate::proofs::Slots::put_full, crate::proofs::Slots::put_room))]
     pub(crate) fn with_first(mut self, range: Range) -> Held
         requires { Canonical self }
         ensures { result ≡ held_of (with_first range (ranges_of self)) }
     {
-        if self.count < 8 {
+        if self.count < SLOTS {
             self.ranges.rotate_right(1);
             self.ranges[0] = range;
             self.count += 1;
