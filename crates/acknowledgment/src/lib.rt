@@ -148,7 +148,12 @@ fn record_after(k: Connection) -> Connection
 }
 
 // Writes the acknowledgment of a record at the start of the buffer, and leaves the octets after it: E8, then E7.
-pub fn write(k: Connection, ports: Ports, clock: u64, buffer: &mut [u8]) -> Result<Acknowledged, AckRefusal>
+pub fn write(
+    k: Connection,
+    ports: Ports,
+    clock: u64,
+    buffer: &mut [u8],
+) -> Result<Acknowledged, AckRefusal>
     requires { Sound k }
     ensures answer { shown k result buffer.new ≡ acknowledging k ports clock buffer.old }
     ensures sound { IfOk result (λ a. Sound a.connection) }

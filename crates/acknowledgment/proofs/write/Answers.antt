@@ -1,6 +1,6 @@
 -- `acknowledgment::write` meets its contract. Assumes nothing.
 use Rattle.std.proofs.lemmas.Result.{err_from_is_err_and}
-use mathlib.Core.Path.{sym, ap, ◌∙◌}
+use mathlib.Core.Path.{sym}
 use Rattle.connection.proofs.Keeping.{acknowledged_sound}
 use Rattle.acknowledgment.proofs.Answers.{by_writing, clock_back_if}
 use Rattle.acknowledgment.proofs.write.Goals as goal
