@@ -9,6 +9,7 @@ use native.Mathlib.Omega.{arith}
 use lib.Dec.{eqb, ltb}
 use lib.ListN.{get_or}
 use borrow.Author.Tests.{eqb-false, eqb-true}
+use Rattle.std.specs.Prelude.{Ok, Err}
 use Rattle.laws.specs.Lists.{any}
 use Rattle.laws.proofs.Choices.{either, neither}
 use Rattle.offers.specs.Offers.{exceed_limits}
@@ -18,17 +19,15 @@ use Rattle.segment.specs.declared.Segment.{Segment}
 use Rattle.segment.proofs.KindAtFault.{FaultThere, fault_there}
 use Rattle.segment.proofs.Refused.{read_whole}
 use Rattle.segment.proofs.Skipped.{Unknown, at_most_twenty, unknown_skipped}
-use Rattle.connection.specs.declared.ArriveOutcome.{ArriveOutcome}
+use Rattle.connection.specs.declared.Arrival as declared
 use Rattle.connection.specs.declared.ArriveRefusal.{ArriveRefusal}
 use Rattle.connection.specs.declared.Connection.{Connection}
-use Rattle.connection.specs.declared.OpenOutcome.{OpenOutcome}
 use Rattle.connection.specs.declared.OpenRefusal.{OpenRefusal}
 use Rattle.connection.specs.declared.Setup.{Setup}
-use Rattle.connection.specs.declared.Verdict.{Verdict}
-use Rattle.connection.specs.Numbers.{Action, Decision, drop_silent, drop_with_ack, open_place, open_skipped, outcome_place, outcome_skipped, refuse, reset, take}
-use Rattle.connection.specs.Opening.{OpeningAnswer, exceeds_limits, is_not_syn, is_wrong_ack, opening, opening_from, opening_read, refused_opening}
+use Rattle.connection.specs.Numbers.{Action, Decision, drop_silent, drop_with_ack, refuse, reset, take}
+use Rattle.connection.specs.Opening.{OpeningAnswer, exceeds_limits, is_not_syn, is_wrong_ack, opening, opening_from, opening_read, refused_opening, shown_open}
 use Rattle.connection.specs.Verdict.{Row, decided, rows}
-use Rattle.connection.specs.Arriving.{Arrival, arriving, arriving_read, is_take, judged, not_taken, refusing, settled, taken_by}
+use Rattle.connection.specs.Arriving.{Arrival, arriving, arriving_read, is_take, judged, not_taken, refusing, settled, shown, taken_by}
 use Rattle.connection.specs.Calls.{Incoming, arrived, fields_of, opened_by, read, unread}
 use Rattle.connection.proofs.Incoming.{arrived_by_fields, opened_by_fields, unreadable_refused}
 use Rattle.connection.proofs.Openings.{unreadable_not_opened}
@@ -233,12 +232,12 @@ module _ (octets : List ℕ) where
         go false z = absurd (some-ne-none n (sym e ∙ refused_skips_none own clock (unread octets) (eqb-false _ 0 z)))
 
 -- Each case that the code answers with holds the count, or the refusal with its place, as it is.
-pub opened_holds : (skipped : ℕ) → open_skipped (OpenOutcome.Opened skipped) ≡ some skipped
-opened_holds skipped = refl
+pub opened_holds : (k : Connection) (skipped : ℕ) → (shown_open (Ok (record { connection = k; skipped = skipped }))).skipped ≡ some skipped
+opened_holds k skipped = refl
 
-pub judged_holds : (verdict : Verdict) (skipped : ℕ) → outcome_skipped (ArriveOutcome.Judged verdict skipped) ≡ some skipped
-judged_holds verdict skipped = refl
+pub judged_holds : (k : Connection) (a : declared.Arrival) → (shown k (Ok a)).skipped ≡ some a.skipped
+judged_holds k a = refl
 
-pub refusal_holds : (why : Refusal) → (open_place (OpenOutcome.Refused (OpenRefusal.Segment why)) ≡ fault_place why)
-    × (outcome_place (ArriveOutcome.Refused (ArriveRefusal.Segment why)) ≡ fault_place why)
-refusal_holds why = (refl, refl)
+pub refusal_holds : (k : Connection) (why : Refusal) → ((shown_open (Err (OpenRefusal.Segment why))).place ≡ fault_place why)
+    × ((shown k (Err (ArriveRefusal.Segment why))).place ≡ fault_place why)
+refusal_holds k why = (refl, refl)

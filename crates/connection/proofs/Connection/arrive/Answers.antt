@@ -1,25 +1,21 @@
--- The two ways out are the cases of `arriving`, and what it gives back is sound.
+-- Octets that do not read, and those that do.
 -- Assumes nothing.
-use mathlib.Core.Option.{Option-elim}
-use mathlib.Core.Path.{◌≡◌, sym, ap, subst, ◌∙◌}
-use Rattle.segment.specs.Reading as segment
+use mathlib.Core.Path.{sym, ap, ◌∙◌}
+use Rattle.std.proofs.lemmas.Result.{err_from_is_err_and}
+use Rattle.segment.specs.Reading.{shown_answer}
 use Rattle.segment.proofs.Readable.{answer_is}
-use Rattle.connection.specs.Arriving.{arriving, shown}
-use Rattle.connection.proofs.Keeping.{SoundArrival, arriving_sound}
+use Rattle.connection.proofs.Exits.{read_arrival, unread_arrival}
 use Rattle.connection.proofs.Connection.arrive.Goals as goal
 
-pub returns-in-Refused : goal.returns-in-Refused
-unfolding arriving Option-elim
-returns-in-Refused c =
+pub returns-in_err-s-clause-answer : goal.returns-in_err-s-clause-answer
+returns-in_err-s-clause-answer c =
+    let p = err_from_is_err_and c.from_residual.result c.from_residual.ensures.1 in
     let a = c.args in
-    let read = answer_is (sym c.read-reading.ensures ∙ ap segment.shown c.in-Refused.is) in
-    let is : shown c.unchanged.result ≡ arriving a.self a.clock a.segment.now = rw read c.unchanged.ensures in
-    record { answer = is; sound = subst SoundArrival (sym is) (arriving_sound a.self c.requires a.clock a.segment.now) }
+    rw (p.1, p.2)
+    (unread_arrival a.segment.now _ (ap shown_answer (sym c.in_err-s.was) ∙ answer_is c.read.ensures) a.self a.clock)
 
-pub returns-in-Segment : goal.returns-in-Segment
-unfolding arriving Option-elim
-returns-in-Segment c =
+pub returns-clause-answer : goal.returns-clause-answer
+returns-clause-answer c =
     let a = c.args in
-    let read = answer_is (sym c.read-reading.ensures ∙ ap segment.shown c.in-Segment.is) in
-    let is : shown c.arrive_read.result ≡ arriving a.self a.clock a.segment.now = rw read c.arrive_read.ensures.answer in
-    record { answer = is; sound = subst SoundArrival (sym is) (arriving_sound a.self c.requires a.clock a.segment.now) }
+    c.arrive_read.ensures.answer
+    ∙ read_arrival a.segment.now _ (ap shown_answer (sym c.in_ok-s.was) ∙ answer_is c.read.ensures) a.self a.clock

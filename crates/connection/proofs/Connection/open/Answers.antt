@@ -1,26 +1,23 @@
--- The two ways out are the cases of `opening`, and what it gives back is sound.
+-- Octets that do not read, and those that do.
 -- Assumes nothing.
-use mathlib.Core.Option.{Option-elim}
-use mathlib.Core.Path.{◌≡◌, sym, ap, subst, ◌∙◌}
-use Rattle.segment.specs.Reading.{shown}
+use mathlib.Core.Path.{sym, ap, ◌∙◌}
+use Rattle.std.proofs.lemmas.Result.{err_from_is_err_and}
+use Rattle.segment.specs.Reading.{shown_answer}
 use Rattle.segment.proofs.Readable.{answer_is}
-use Rattle.connection.specs.Opening.{opening, opening_read, shown_open}
-use Rattle.connection.specs.Calls.{plain, unread}
-use Rattle.connection.proofs.Keeping.{SoundOpening, opened_sound}
+use Rattle.connection.proofs.Exits.{read_opening, unread_opening}
 use Rattle.connection.proofs.Connection.open.Goals as goal
 
-pub returns-in-Refused : goal.returns-in-Refused
-unfolding opening Option-elim
-returns-in-Refused c =
+pub returns-in_err-syn-clause-answer : goal.returns-in_err-syn-clause-answer
+returns-in_err-syn-clause-answer c =
+    let p = err_from_is_err_and c.from_residual.result c.from_residual.ensures.1 in
     let a = c.args in
-    let read = answer_is (sym c.read-reading.ensures ∙ ap shown c.in-Refused.is) in
-    let is : shown_open c.unreadable.result ≡ opening a.own a.clock a.syn.now = rw read c.unreadable.ensures in
-    record { answer = is; sound = subst SoundOpening (sym is) (opened_sound a.own a.clock plain (unread a.syn.now)) }
+    let within = sym c.exceeds_limits.ensures ∙ c.if-exceeds_limits.false in
+    rw (p.1, p.2)
+    (unread_opening a.syn.now _ (ap shown_answer (sym c.in_err-syn.was) ∙ answer_is c.read.ensures) a.own a.clock within)
 
-pub returns-in-Segment : goal.returns-in-Segment
-unfolding opening opening_read Option-elim
-returns-in-Segment c =
+pub returns-clause-answer : goal.returns-clause-answer
+returns-clause-answer c =
     let a = c.args in
-    let read = answer_is (sym c.read-reading.ensures ∙ ap shown c.in-Segment.is) in
-    let is : shown_open c.open_read.result ≡ opening a.own a.clock a.syn.now = rw read c.open_read.ensures.answer in
-    record { answer = is; sound = c.open_read.ensures.sound }
+    let within = sym c.exceeds_limits.ensures ∙ c.if-exceeds_limits.false in
+    c.open_from.ensures.answer
+    ∙ read_opening a.syn.now _ (ap shown_answer (sym c.in_ok-syn.was) ∙ answer_is c.read.ensures) a.own a.clock within

@@ -1,29 +1,28 @@
--- The two ways out are the cases of `profile_opening`, and what it gives back is sound.
+-- E9, octets that do not read, and those that do.
 -- Assumes nothing.
-use mathlib.Core.Option.{Option-elim}
-use mathlib.Core.Path.{◌≡◌, sym, ap, subst, ◌∙◌}
-use Rattle.segment.specs.Reading.{shown}
+use mathlib.Core.Path.{sym, ap, ◌∙◌}
+use Rattle.std.proofs.lemmas.Result.{err_from_is_err_and}
+use Rattle.segment.specs.Reading.{shown_answer}
 use Rattle.segment.proofs.Readable.{answer_is}
-use Rattle.connection.specs.Opening.{opening, opening_read}
-use Rattle.connection.specs.Profile.{as_opened, profile_opening, profile_opening_read, shown_profile}
-use Rattle.connection.specs.Calls.{profile, unread}
-use Rattle.connection.proofs.Keeping.{SoundProfiled, opened_sound}
+use Rattle.connection.proofs.Exits.{limits_profile, read_profile, unread_profile}
 use Rattle.connection.proofs.Connection.open_under_profile.Goals as goal
 
-pub returns-in-Refused : goal.returns-in-Refused
-unfolding profile_opening opening Option-elim
-returns-in-Refused c =
+pub returns-then-exceeds_limits-clause-answer : goal.returns-then-exceeds_limits-clause-answer
+returns-then-exceeds_limits-clause-answer c =
     let a = c.args in
-    let read = answer_is (sym c.read-reading.ensures ∙ ap shown c.in-Refused.is) in
-    let is : shown_profile c.as_opened.result ≡ profile_opening a.own a.clock a.syn.now =
-    rw read (c.as_opened.ensures ∙ ap as_opened c.unreadable.ensures) in
-    record { answer = is; sound = subst SoundProfiled (sym is) (opened_sound a.own a.clock profile (unread a.syn.now)) }
+    rw c.into.ensures (limits_profile a.own a.clock a.syn.now (sym c.exceeds_limits.ensures ∙ c.if-exceeds_limits.true))
 
-pub returns-in-Segment : goal.returns-in-Segment
-unfolding profile_opening profile_opening_read opening opening_read Option-elim
-returns-in-Segment c =
+pub returns-in_err-syn-clause-answer : goal.returns-in_err-syn-clause-answer
+returns-in_err-syn-clause-answer c =
+    let p = err_from_is_err_and c.from_residual.result c.from_residual.ensures.1 in
     let a = c.args in
-    let read = answer_is (sym c.read-reading.ensures ∙ ap shown c.in-Segment.is) in
-    let is : shown_profile c.open_read_under_profile.result ≡ profile_opening a.own a.clock a.syn.now =
-    rw read c.open_read_under_profile.ensures.answer in
-    record { answer = is; sound = c.open_read_under_profile.ensures.sound }
+    let within = sym c.exceeds_limits.ensures ∙ c.if-exceeds_limits.false in
+    rw (p.1, p.2)
+    (unread_profile a.syn.now _ (ap shown_answer (sym c.in_err-syn.was) ∙ answer_is c.read.ensures) a.own a.clock within)
+
+pub returns-clause-answer : goal.returns-clause-answer
+returns-clause-answer c =
+    let a = c.args in
+    let within = sym c.exceeds_limits.ensures ∙ c.if-exceeds_limits.false in
+    c.open_from.ensures.answer
+    ∙ read_profile a.syn.now _ (ap shown_answer (sym c.in_ok-syn.was) ∙ answer_is c.read.ensures) a.own a.clock within

@@ -1,8 +1,11 @@
--- What is in force goes by both offers.
+-- Both sides are sound, and so is a new timer.
 -- Assumes nothing.
-use Rattle.connection.specs.Opening.{record_from}
+use Rattle.rto.proofs.Sound.{sound_new}
 use Rattle.connection.proofs.opening.record_from.Goals as goal
 
-pub returns : goal.returns
-unfolding record_from
-returns c = rw (c.record_with.ensures, c.in_force-force.ensures, c.peer_offers-peer.ensures)
+pub returns-clause-sound : goal.returns-clause-sound
+returns-clause-sound c = record {
+  receive_sound = c.new.ensures.sound;
+  send_sound = c.new-2.ensures.sound;
+  timer_sound = rw c.new-4.ensures sound_new;
+}
