@@ -1,4 +1,4 @@
--- The slots that hold a list of ranges, and one range put first in them. Assumes nothing.
+-- The slots that hold a list of ranges, and one range put first or last in them. Assumes nothing.
 use mathlib.Core.List.{List, [], ◌∷◌, ◌++◌}
 use mathlib.Core.Path.{◌≡◌, refl, sym, ap, ◌∙◌}
 use Prim.Native.Nat.{◌+◌, ◌-◌, ◌≤◌, ◌<◌}
@@ -71,3 +71,22 @@ put_room r h k few =
 
 pub put_full : (r : Range) (h : Held) → Canonical h → 8 ≤ h.count → h ≡ held_of (with_first r (ranges_of h))
 put_full r h k full = k.form ∙ ap held_of (sym (first_full r (ranges_of h) (omega (arith, length_ranges h k))))
+
+-- r in the slot after the last that is used
+abbrev added : Held → Range → Held
+added h r = record { ranges = set h.ranges h.count r; count = h.count + 1 }
+
+added_list : (r : Range) (l : List Range) → length l < 8 → added (held_of l) r ≡ held_of (l ++ r ∷ [])
+unfolding held_of
+added_list r [] h = refl
+added_list r (a ∷ []) h = refl
+added_list r (a ∷ b ∷ []) h = refl
+added_list r (a ∷ b ∷ c ∷ []) h = refl
+added_list r (a ∷ b ∷ c ∷ d ∷ []) h = refl
+added_list r (a ∷ b ∷ c ∷ d ∷ e ∷ []) h = refl
+added_list r (a ∷ b ∷ c ∷ d ∷ e ∷ f ∷ []) h = refl
+added_list r (a ∷ b ∷ c ∷ d ∷ e ∷ f ∷ g ∷ []) h = refl
+added_list r (a ∷ b ∷ c ∷ d ∷ e ∷ f ∷ g ∷ i ∷ l) h = absurd (omega arith)
+
+pub put_last : (r : Range) (h : Held) → Canonical h → h.count < 8 → added h r ≡ held_of (ranges_of h ++ r ∷ [])
+put_last r h k few = ap (λ x. added x r) k.form ∙ added_list r (ranges_of h) (omega (arith, length_ranges h k))

@@ -217,7 +217,7 @@ impl Receive {
     }
 
     // RCV.NXT moved to the end of the part and of the ranges that it meets, which leave.
-    #[tactic(auto, using(crate::proofs::Taken::advance_within, crate::proofs::Taken::advanced_alone), unfolding(crate::specs::Taking::advanced, crate::specs::Internal::absorbed_of, crate::specs::Internal::moved_on))]
+    #[tactic(auto, using(crate::proofs::Taken::advance_within, crate::proofs::Taken::advanced_alone), unfolding(crate::specs::Taking::advanced, crate::specs::Internal::moved_on))]
     fn advanced(self, part: Part) -> Receive
         requires sound { Sound self }
         requires within { part.to ≤ self.window }
@@ -227,25 +227,24 @@ impl Receive {
         if self.held.count == 0 {
             return self.moved_on(part.to);
         }
-        let absorbed = self.held.absorb(self.nxt, part);
-        let next = self.moved_on(absorbed.part.to);
+        let next = self.moved_on(self.held.joined(self.nxt, part).to);
         Receive {
-            held: absorbed.rest,
+            held: self.held.unmet(self.nxt, part),
             ..next
         }
     }
 
     // The part joined with the ranges that it meets, put first among the others.
-    #[tactic(auto, using(crate::proofs::Room::put_after, crate::proofs::Room::unmet_most, crate::proofs::Slots::canonical_held, crate::proofs::Slots::ranges_held), unfolding(crate::specs::Taking::holding, crate::specs::Internal::absorbed_of))]
+    #[tactic(auto, using(crate::proofs::Room::put_after, crate::proofs::Room::unmet_most, crate::proofs::Slots::canonical_held, crate::proofs::Slots::ranges_held), unfolding(crate::specs::Taking::holding))]
     fn holding(self, part: Part) -> Receive
         requires sound { Sound self }
         requires out_of_order { IsTrue (is_out_of_order part) }
         ensures { result ≡ holding self part }
     {
-        let absorbed = self.held.absorb(self.nxt, part);
-        let range = absorbed.part.range(self.nxt);
+        let range = self.held.joined(self.nxt, part).range(self.nxt);
+        let others = self.held.unmet(self.nxt, part);
         Receive {
-            held: absorbed.rest.with_first(range),
+            held: others.with_first(range),
             ..self
         }
     }

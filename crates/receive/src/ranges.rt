@@ -1,20 +1,13 @@
-// The held ranges: those that a part meets, and the others.
-ghost use Rattle.std.specs.Prelude.{◌≡◌, []};
+// The ranges held: those that a part meets, and the others.
+ghost use Rattle.std.specs.Prelude.{◌≡◌, ◌<◌, [], ◌∷◌, ◌++◌};
 ghost use Rattle.std.specs.List.{list_any};
-ghost use Rattle.receive.specs.Ranges.{held_of, is_out_of_order, lies_in, meets, range_of, ranges_of};
+ghost use Rattle.receive.specs.Ranges.{held_of, is_out_of_order, joined, lies_in, meets, range_of, ranges_of, unmet};
 ghost use Rattle.receive.specs.Sound.{Canonical};
-ghost use Rattle.receive.specs.Internal.{absorbed_of, with_first};
+ghost use Rattle.receive.specs.Internal.{with_first};
 ghost use Rattle.receive.specs.Window.{empty_part};
 
 use super::{Held, Part, SLOTS};
 use serial::{Range, Seq, Serial};
-
-// A part joined with the ranges that it meets, and the other ranges.
-#[derive(Clone, Copy)]
-pub struct Absorbed {
-    pub part: Part,
-    pub rest: Held,
-}
 
 impl Part {
     pub(crate) fn empty() -> Part
@@ -102,22 +95,40 @@ impl Held {
         self
     }
 
-    // The part joined with the ranges that it meets, and the other ranges in their order.
-    pub(crate) fn absorb(&self, nxt: Seq, part: Part) -> Absorbed
-        ensures { result ≡ absorbed_of nxt.0 part (ranges_of self.now) }
+    // One range more, put last.
+    #[tactic(auto, using(crate::proofs::Slots::put_last))]
+    fn push(&mut self, range: Range)
+        requires { Canonical self.old × (self.old.count < 8) }
+        ensures { self.new ≡ held_of (ranges_of self.old ++ range ∷ []) }
     {
-        let mut absorbed = Absorbed {
-            part,
-            rest: Held::none(),
-        };
+        self.ranges[self.count] = range;
+        self.count += 1;
+    }
+
+    // The part joined with the ranges that it meets.
+    pub(crate) fn joined(&self, nxt: Seq, part: Part) -> Part
+        ensures { result ≡ joined nxt.0 part (ranges_of self.now) }
+    {
+        let mut joined = part;
         for range in self.as_slice().iter().rev() {
             if part.meets(nxt, *range) {
-                absorbed.part.from = range.left.offset(nxt).min(absorbed.part.from);
-                absorbed.part.to = range.right.offset(nxt).max(absorbed.part.to);
-            } else {
-                absorbed.rest = absorbed.rest.with_first(*range);
+                joined.from = range.left.offset(nxt).min(joined.from);
+                joined.to = range.right.offset(nxt).max(joined.to);
             }
         }
-        absorbed
+        joined
+    }
+
+    // The ranges that the part does not meet, in their order.
+    pub(crate) fn unmet(&self, nxt: Seq, part: Part) -> Held
+        ensures { result ≡ held_of (unmet nxt.0 part (ranges_of self.now)) }
+    {
+        let mut rest = Held::none();
+        for range in self.as_slice() {
+            if !part.meets(nxt, *range) {
+                rest.push(*range);
+            }
+        }
+        rest
     }
 }
