@@ -12,6 +12,7 @@ use Rattle.laws.proofs.Lists.{filter_append}
 use Rattle.segment.specs.Grammar.{Step, nop, end, whole, broken}
 use Rattle.segment.specs.Options.{Found, found, is_found, is_known, is_repeated, is_skipped, nothing, option_in, option_of, skipped_in, stands_in}
 use Rattle.segment.specs.Internal.{Noted, place_of}
+use Rattle.segment.specs.declared.notes.Notes.{Notes}
 
 abbrev pub first_of : Found → Found → Found
 first_of (found at octets) later = found at octets
@@ -86,9 +87,9 @@ module _ (before : List Step) (at : ℕ) (octets : List ℕ) where
       go false = refl
 
   -- notes with one more option: its place at its kind where that is known, otherwise one more skipped
-  pub noted_after : (notes later : List ℕ) → Noted before notes → 0 < at → is_repeated before kind ≡ false
-      → ((k : ℕ) → is_known k ≡ true → get_or later k 0 ≡ cond (eqb kind k) at (get_or notes k 0))
-      → get_or later 10 0 ≡ cond (is_known kind) (get_or notes 10 0) (get_or notes 10 0 + 1)
+  pub noted_after : (notes later : Notes) → Noted before notes → 0 < at → is_repeated before kind ≡ false
+      → ((k : ℕ) → is_known k ≡ true → get_or later.places k 0 ≡ cond (eqb kind k) at (get_or notes.places k 0))
+      → later.skipped ≡ cond (is_known kind) notes.skipped (notes.skipped + 1)
       → Noted after later
   noted_after notes later p past new places skipped = record {
     places = λ k known.

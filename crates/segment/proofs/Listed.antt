@@ -6,6 +6,7 @@ use Prim.Native.Nat.{ℕ, ◌+◌, ◌≤◌, ◌<◌}
 use native.Mathlib.Omega.{arith}
 use lib.ListN.{drop, get_or, length, take}
 use denote.Ref.{Bor}
+use Rattle.std.specs.Prelude.{Some, None}
 use borrow.Author.Tests.{eq-eqb, ne_eqb}
 use Rattle.segment.specs.Grammar.{is_broken, option_rule, padding_rule}
 use Rattle.segment.specs.Options.{Found, found, nothing, option_in, stands_in}
@@ -42,17 +43,18 @@ module _ (kinds header : List ℕ) (at : ℕ) where
   unfolding option_in
   whole_found e = ap (option_in kinds) (option_whole header at e) ∙ simp (kind_kept header at e)
 
--- by how far a step reaches
-module _ (kinds header : List ℕ) (at n : ℕ) (r : Reaches header at n) where
-  pub nothing_more : n ≡ 0 → option_in (matching kinds) (padding_rule at (drop at header)) ≡ nothing
-  nothing_more z = r.finds kinds ∙ simp (eq-eqb n 0 z)
+-- by how many octets the step there has
+module _ (kinds header : List ℕ) (at : ℕ) where
+  pub nothing_more : Reaches header at None → option_in (matching kinds) (padding_rule at (drop at header)) ≡ nothing
+  nothing_more r = r.finds kinds
 
-  pub found_here : (n ≡ 0 → ⊥) → is_listed kinds (get_or header at 0) ≡ true → option_in (matching kinds) (padding_rule at (drop at header)) ≡ found at (take n (drop at header))
-  found_here some l = r.finds kinds ∙ simp (ne_eqb n 0 some, l)
+  module _ (n : ℕ) (r : Reaches header at (Some n)) where
+    pub found_here : is_listed kinds (get_or header at 0) ≡ true → option_in (matching kinds) (padding_rule at (drop at header)) ≡ found at (take n (drop at header))
+    found_here l = r.finds kinds ∙ simp l
 
-  pub found_later : (n ≡ 0 → ⊥) → is_listed kinds (get_or header at 0) ≡ false
-      → option_in (matching kinds) (padding_rule at (drop at header)) ≡ option_in (matching kinds) (padding_rule (at + n) (drop (at + n) header))
-  found_later some l = r.finds kinds ∙ simp (ne_eqb n 0 some, l)
+    pub found_later : is_listed kinds (get_or header at 0) ≡ false
+        → option_in (matching kinds) (padding_rule at (drop at header)) ≡ option_in (matching kinds) (padding_rule (at + n) (drop (at + n) header))
+    found_later l = r.finds kinds ∙ simp l
 
 -- a part of what starts where the slice does is a part of the slice
 pub part_of_start : (r : Bor (List ℕ)) (from : ℕ × ℕ) (f : Found) → IsPart r (from.0, 0 + from.1) f → IsPart r from f

@@ -5,25 +5,21 @@ ghost use Rattle.segment.specs.Options.{Found, block_at, blocks_of, mss_of, opti
 ghost use Rattle.segment.specs.Internal.{Noted, StandAll, StandsIf, place_of};
 
 use super::kinds::Kind;
-use super::notes::place_of;
+use super::notes::Notes;
 use super::{Options, SackBlocks, Timestamps};
 use octets::{Number, read_u8};
 use serial::{Range, Seq, Stamp};
 
 // The values of the options whose places are noted.
-pub fn options(segment: &[u8], notes: &[u8]) -> Options
+pub fn options(segment: &[u8], notes: &Notes) -> Options
     ensures { (steps : List Step) → Noted steps notes.now → StandAll segment.now steps → result ≡ options_of steps }
 {
-    let mss = mss(segment, place_of(notes, Kind::Mss));
-    let scale = scale(segment, place_of(notes, Kind::WindowScale));
-    let blocks = sack_blocks(segment, place_of(notes, Kind::Sack));
-    let timestamps = timestamps(segment, place_of(notes, Kind::Timestamps));
     Options {
-        mss,
-        scale,
-        permitted: place_of(notes, Kind::SackPermitted) != 0,
-        blocks,
-        timestamps,
+        mss: mss(segment, notes.place(Kind::Mss)),
+        scale: scale(segment, notes.place(Kind::WindowScale)),
+        permitted: notes.place(Kind::SackPermitted) != 0,
+        blocks: sack_blocks(segment, notes.place(Kind::Sack)),
+        timestamps: timestamps(segment, notes.place(Kind::Timestamps)),
     }
 }
 
