@@ -26,7 +26,6 @@ same_noted : (a b : List Step) (notes : Notes) → SameOptions a b → Noted a n
 same_noted a b notes e p = record {
   places = λ kind known. p.places kind known ∙ ap place_of (e.found_same (kind ∷ []));
   skipped = p.skipped ∙ e.skipped_same;
-  past_start = λ kinds octets q. p.past_start kinds octets (e.found_same kinds ∙ q);
 }
 
 same_after : (a b later : List Step) → SameOptions a b → SameOptions (a ++ later) (b ++ later)

@@ -1,11 +1,10 @@
 -- The rules' outcome on the octets of the header from a place on, by the octets that the code tests. Assumes nothing.
 use mathlib.Core.Bool.{Bool, true, false, not, ◌&&◌}
 use mathlib.Core.List.{List, [], ◌∷◌, ◌++◌}
-use mathlib.Core.Path.{◌≡◌, refl, sym, ap, subst, ◌∙◌}
+use mathlib.Core.Path.{◌≡◌, sym, ap, subst, ◌∙◌}
 use Prim.Native.Nat.{ℕ, ◌+◌, ◌≤◌, ◌<◌}
 use lib.ListN.{drop, get_or, length, take}
-use Rattle.std.specs.Prelude.{Result, Ok, Err}
-use borrow.Author.Tests.{ne_eqb}
+use Rattle.std.specs.Prelude.{None, is_some, Result, Ok, Err}
 use Rattle.segment.specs.Grammar.{Step, is_broken, option_rule, padding_rule, whole}
 use Rattle.segment.specs.Options.{is_found, is_known, is_repeated, is_wrong_length, known_kinds, lengths_of, option_of, stands_in}
 use Rattle.segment.specs.Internal.{Answers, Noted, Outcome}
@@ -68,13 +67,13 @@ module _ (before : List Step) (k : ℕ) (header : List ℕ) (at : ℕ) where
         (outcome_wrong before k at _ notes count _ (rw (kind_kept header at e, length_kept header at e) w))
 
     pub at_repeated : is_broken (drop at header) ≡ false → is_wrong_length kind n ≡ false → is_known kind ≡ true → Noted before notes
-        → (get_or notes.places kind 0 ≡ 0 → ⊥) → ByOption (Err (Refusal.RepeatedOption at)) notes
+        → is_some (get_or notes.places kind None) ≡ true → ByOption (Err (Refusal.RepeatedOption at)) notes
     at_repeated e w known p there =
-        let repeated : is_repeated before kind ≡ true = sym (noted_repeated before notes kind known p) ∙ simp (ne_eqb _ _ there) in
+        let repeated : is_repeated before kind ≡ true = sym (noted_repeated before notes kind known p) ∙ there in
         from_steps _ _ _ notes (option_whole header at e)
         (outcome_repeated before k at _ notes count _ (rw (kind_kept header at e, length_kept header at e) w) (rw (kind_kept header at e) repeated))
 
-  module _ (e : is_broken (drop at header) ≡ false) (notes : Notes) (p : Noted before notes) (past : 0 < at) (count : notes.steps ≡ k + 1)
+  module _ (e : is_broken (drop at header) ≡ false) (notes : Notes) (p : Noted before notes) (count : notes.steps ≡ k + 1)
       (answer : Result (Unit {0}) Refusal) (later : Notes) where
     abbrev octets : List ℕ
     octets = take n (drop at header)
@@ -94,12 +93,12 @@ module _ (before : List Step) (k : ℕ) (header : List ℕ) (at : ℕ) where
     at_skipped unknown after =
         let passes = unknown_passes kind n unknown in
         let is = kind_kept header at e in
-        at_whole passes.0 (passes.1 before) _ (skipping_noted notes before p at past octets (rw is unknown) (rw is (passes.1 before))) count after
+        at_whole passes.0 (passes.1 before) _ (skipping_noted notes before p at octets (rw is unknown) (rw is (passes.1 before))) count after
 
-    pub at_known : length notes.places ≡ 9 → (known : is_known kind ≡ true) → is_wrong_length kind n ≡ false → get_or notes.places kind 0 ≡ 0
+    pub at_known : length notes.places ≡ 9 → (known : is_known kind ≡ true) → is_wrong_length kind n ≡ false → is_some (get_or notes.places kind None) ≡ false
         → Answers (padding_rule (at + n) (drop (at + n) header)) (placed notes kind at) answer later → ByOption answer later
     at_known size known w none after =
         let is = kind_kept header at e in
-        let new : is_repeated before kind ≡ false = sym (noted_repeated before notes kind known p) ∙ rw none refl in
-        let noted = placed_noted notes before p at past octets size (rw is known) (rw is new) in
+        let new : is_repeated before kind ≡ false = sym (noted_repeated before notes kind known p) ∙ none in
+        let noted = placed_noted notes before p at octets size (rw is known) (rw is new) in
         at_whole w new _ (rw is at noted) count after

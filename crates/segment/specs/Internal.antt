@@ -10,16 +10,15 @@ use Rattle.segment.specs.Reading.{fault_place, matching, number_of}
 use Rattle.segment.specs.declared.Refusal.{Refusal}
 use Rattle.segment.specs.declared.notes.Notes.{Notes}
 
--- the place of an option, 0 where there is none
-abbrev pub place_of : Found → ℕ
-place_of nothing = 0
-place_of (found place octets) = place
+-- the place of an option
+abbrev pub place_of : Found → std.Option ℕ
+place_of nothing = std.None
+place_of (found place octets) = std.Some place
 
--- what is noted of the options among some steps, none of which stands at place 0: the place of each known one, and how many others there are
+-- what is noted of the options among some steps: the place of each known one, and how many others there are
 pub record Noted (steps : List Step) (notes : Notes) : Type 0 where
-  pub places : (kind : ℕ) → is_known kind ≡ true → get_or notes.places kind 0 ≡ place_of (option_of kind steps)
+  pub places : (kind : ℕ) → is_known kind ≡ true → get_or notes.places kind std.None ≡ place_of (option_of kind steps)
   pub skipped : notes.skipped ≡ skipped_in steps
-  pub past_start : (kinds octets : List ℕ) → option_in kinds steps ≡ found 0 octets → ⊥
 
 -- a step takes an octet at least, and an option that is skipped two, so that the counts stay within the octets up to a place
 pub record Room (notes : Notes) (at : ℕ) : Type 0 where

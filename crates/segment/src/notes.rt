@@ -1,5 +1,5 @@
 // What the rules note of the options while they run. A header has at most 60 octets, so a place fits into one.
-ghost use Rattle.std.specs.Prelude.{◌≡◌, get_or, replicate, set};
+ghost use Rattle.std.specs.Prelude.{◌≡◌, None, Some, get_or, replicate, set};
 ghost use Rattle.segment.specs.Kinds.{kind_number};
 
 use super::kinds::Kind;
@@ -9,8 +9,8 @@ const KINDS: usize = 9;
 
 #[derive(Drop)]
 pub struct Notes {
-    // At each known kind the place in the segment of the option of that kind, 0 where there is none.
-    places: [u8; KINDS],
+    // At each known kind the place in the segment of the option of that kind.
+    places: [Option<u8>; KINDS],
     // How many steps were taken.
     pub steps: usize,
     // How many unknown options were skipped.
@@ -19,24 +19,24 @@ pub struct Notes {
 
 impl Notes {
     pub fn new() -> Notes
-        ensures { result ≡ record { places = replicate 9 0; steps = 0; skipped = 0 } }
+        ensures { result ≡ record { places = replicate 9 None; steps = 0; skipped = 0 } }
     {
         Notes {
-            places: [0; KINDS],
+            places: [None; KINDS],
             steps: 0,
             skipped: 0,
         }
     }
 
-    pub fn place(&self, kind: Kind) -> u8
-        ensures { result ≡ get_or self.now.places (kind_number kind) 0 }
+    pub fn place(&self, kind: Kind) -> Option<u8>
+        ensures { result ≡ get_or self.now.places (kind_number kind) None }
     {
         self.places[kind as usize]
     }
 
     pub fn set_place(&mut self, kind: Kind, place: u8)
-        ensures { self.new ≡ record self.old { places = set self.old.places (kind_number kind) place } }
+        ensures { self.new ≡ record self.old { places = set self.old.places (kind_number kind) (Some place) } }
     {
-        self.places[kind as usize] = place;
+        self.places[kind as usize] = Some(place);
     }
 }

@@ -13,7 +13,7 @@ use super::notes::Notes;
 // Passes NOPs from `from` on and ends the list at kind 0 or at the header's end.
 #[cycle(option_rule_padding_rule)]
 pub fn padding_rule(header: &[u8], from: usize, notes: &mut Notes) -> Result<(), Refusal>
-    requires { (0 < from) × Room notes.old from × (from ≤ length header.now) × (length header.now ≤ 60) }
+    requires { Room notes.old from × (from ≤ length header.now) × (length header.now ≤ 60) }
     ensures { Answers (padding_rule from (drop from header.now)) notes.old result notes.new }
 {
     let at = after_nops(header, from);
@@ -44,7 +44,7 @@ fn after_nops(header: &[u8], from: usize) -> usize
 // Reads one kind, length and body, and passes what is left to the padding rule: E4, E5, E6 in this order.
 #[cycle(option_rule_padding_rule)]
 fn option_rule(header: &[u8], at: usize, notes: &mut Notes) -> Result<(), Refusal>
-    requires { (0 < at) × Room notes.old at × (at < length header.now) × (length header.now ≤ 60) }
+    requires { Room notes.old at × (at < length header.now) × (length header.now ≤ 60) }
     ensures { Answers (option_rule at (drop at header.now)) notes.old result notes.new }
 {
     notes.steps += 1;
@@ -62,7 +62,7 @@ fn option_rule(header: &[u8], at: usize, notes: &mut Notes) -> Result<(), Refusa
     if is_wrong_length(kind, n) {
         return Err(Refusal::WrongOptionLength(place));
     }
-    if notes.place(kind) != 0 {
+    if notes.place(kind).is_some() {
         return Err(Refusal::RepeatedOption(place));
     }
     notes.set_place(kind, place);
@@ -85,6 +85,7 @@ pub fn is_broken(left: &[u8]) -> bool
 const SACK_LENGTHS: [usize; 4] = [10, 18, 26, 34];
 
 // E5: the kind does not have this length.
+#[tactic(auto, using(crate::proofs::Membership::any_stands), unfolding(crate::specs::Options::is_wrong_length, crate::specs::Options::stands_in, crate::specs::Options::lengths_of))]
 fn is_wrong_length(kind: Kind, n: usize) -> bool
     ensures { result ≡ is_wrong_length (kind_number kind) n }
 {

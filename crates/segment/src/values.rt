@@ -17,50 +17,45 @@ pub fn options(segment: &[u8], notes: &Notes) -> Options
     Options {
         mss: mss(segment, notes.place(Kind::Mss)),
         scale: scale(segment, notes.place(Kind::WindowScale)),
-        permitted: notes.place(Kind::SackPermitted) != 0,
+        permitted: notes.place(Kind::SackPermitted).is_some(),
         blocks: sack_blocks(segment, notes.place(Kind::Sack)),
         timestamps: timestamps(segment, notes.place(Kind::Timestamps)),
     }
 }
 
-fn mss(segment: &[u8], place: u8) -> Option<u16>
+fn mss(segment: &[u8], place: Option<u8>) -> Option<u16>
     ensures { (f : Found) → place ≡ place_of f → StandsIf segment.now 2 4 f → result ≡ mss_of f }
 {
-    if place == 0 {
-        return None;
-    }
-    Some(u16::read(segment, place as usize + 2))
+    let at = place? as usize;
+    Some(u16::read(segment, at + 2))
 }
 
-fn scale(segment: &[u8], place: u8) -> Option<u8>
+fn scale(segment: &[u8], place: Option<u8>) -> Option<u8>
     ensures { (f : Found) → place ≡ place_of f → StandsIf segment.now 3 3 f → result ≡ scale_of f }
 {
-    if place == 0 {
-        return None;
-    }
-    Some(read_u8(segment, place as usize + 2))
+    let at = place? as usize;
+    Some(read_u8(segment, at + 2))
 }
 
-fn timestamps(segment: &[u8], place: u8) -> Option<Timestamps>
+fn timestamps(segment: &[u8], place: Option<u8>) -> Option<Timestamps>
     ensures { (f : Found) → place ≡ place_of f → StandsIf segment.now 8 10 f → result ≡ timestamps_of f }
 {
-    if place == 0 {
-        return None;
-    }
-    let value = Stamp(u32::read(segment, place as usize + 2));
-    let echoed = Stamp(u32::read(segment, place as usize + 6));
-    Some(Timestamps { value, echoed })
+    let at = place? as usize;
+    Some(Timestamps {
+        value: Stamp(u32::read(segment, at + 2)),
+        echoed: Stamp(u32::read(segment, at + 6)),
+    })
 }
 
-fn sack_blocks(segment: &[u8], place: u8) -> SackBlocks
+fn sack_blocks(segment: &[u8], place: Option<u8>) -> SackBlocks
     ensures { (f : Found) → place ≡ place_of f → StandsIf segment.now 5 10 f → result ≡ blocks_of f }
 {
-    if place == 0 {
-        return SackBlocks::none();
-    }
+    let mut blocks = SackBlocks::none();
+    let Some(place) = place else {
+        return blocks;
+    };
     let at = place as usize;
     let count = (read_u8(segment, at + 1) as usize).saturating_sub(2) / 8;
-    let mut blocks = SackBlocks::none();
     for i in 0..count {
         blocks.push(block(segment, at + 2 + 8 * i));
     }

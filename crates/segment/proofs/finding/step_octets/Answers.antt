@@ -52,7 +52,7 @@ pub returns-then-header-at : goal.returns-then-header-at
 returns-then-header-at c =
     let a = c.args in
     elim c.then-header-at.branch [
-      then-header-at-via-then-header-at w ↦ past a.header.now a.at w.if-header-at.true
+      | then-header-at-via-then-header-at w ↦ past a.header.now a.at w.if-header-at.true
       | then-header-at-via-else-header-at+then-header-at-eq-END w ↦ at_end a.header.now a.at w.if-header-at.false (omega (arith, w.if-header-at-eq-END.true))
     ]
 

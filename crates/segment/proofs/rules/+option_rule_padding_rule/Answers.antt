@@ -1,14 +1,14 @@
 -- The two rules, which call each other. The measure is document 01's: twice the octets left, plus one in the padding rule. Each return
 -- cites the law of the step that its way through the code meets. Assumes nothing.
-use mathlib.Core.Bool.{true, false}
+use mathlib.Core.Bool.{false}
 use mathlib.Core.List.{List}
-use mathlib.Core.Path.{◌≡◌, refl, sym, ap, subst, ◌∙◌}
+use mathlib.Core.Path.{◌≡◌, refl, sym, ap, ◌∙◌}
 use Prim.Native.Nat.{ℕ, ◌+◌, ◌-◌, ◌≤◌, ◌<◌}
 use native.Mathlib.Omega.{arith}
 use lib.ListN.{drop, get_or, length}
-use Rattle.std.specs.Prelude.{Result, Ok, Err}
+use Rattle.std.specs.Prelude.{None, is_some, Result}
 use Rattle.segment.specs.Grammar.{is_broken, option_rule, padding_rule}
-use Rattle.segment.specs.Options.{is_known, is_wrong_length}
+use Rattle.segment.specs.Options.{is_wrong_length}
 use Rattle.segment.specs.Internal.{Answers, Room}
 use Rattle.segment.specs.Kinds.{kind_number}
 use Rattle.segment.specs.declared.Refusal.{Refusal}
@@ -16,7 +16,7 @@ use Rattle.segment.specs.declared.kinds.Kind.{Kind}
 use Rattle.segment.specs.declared.notes.Notes.{Notes}
 use Rattle.segment.proofs.ByOctet.{octets_least, octets_most, tested}
 use Rattle.segment.proofs.KindsKnown.{kind_known}
-use Rattle.segment.proofs.Noting.{placed, room_placed, room_skipping, skipping, stepped, stepped_noted}
+use Rattle.segment.proofs.Noting.{placed, room_placed, room_skipping, stepped, stepped_noted}
 use Rattle.segment.proofs.Outcomes.{at_broken, at_end, at_known, at_option, at_past, at_repeated, at_skipped, at_wrong}
 use Rattle.segment.proofs.rules.+option_rule_padding_rule.Goals as goal
 
@@ -30,12 +30,12 @@ module _ (header : List ℕ) (at : ℕ) (unbroken : is_broken (drop at header) �
 
   -- One of a known kind and a right length, the first of its kind, whose place is noted: what is answered to the octets after it is answered
   -- to it too.
-  with_place : (notes noted : Notes) (kind : Kind) → length notes.places ≡ 9 → 0 < at → kind_number kind ≡ get_or header at 0
-      → is_wrong_length (kind_number kind) n ≡ false → get_or notes.places (kind_number kind) 0 ≡ 0
+  with_place : (notes noted : Notes) (kind : Kind) → length notes.places ≡ 9 → kind_number kind ≡ get_or header at 0
+      → is_wrong_length (kind_number kind) n ≡ false → is_some (get_or notes.places (kind_number kind) None) ≡ false
       → noted ≡ placed (stepped notes 1) (kind_number kind) at → (answer : Result (Unit {0}) Refusal) (later : Notes)
       → Answers (padding_rule (at + n) (drop (at + n) header)) noted answer later → Answers (option_rule at (drop at header)) notes answer later
-  with_place notes noted kind size past is right none e answer later after before p =
-      at_known before _ header at unbroken (stepped notes 1) (stepped_noted notes before p 1) past refl answer later size
+  with_place notes noted kind size is right none e answer later after before p =
+      at_known before _ header at unbroken (stepped notes 1) (stepped_noted notes before p 1) refl answer later size
       (rw is at (kind_known kind)) (rw is at right) (rw is at none) (rw (e, is) at after)
 
 pub option_rule-returns-then-is_broken : goal.option_rule-returns-then-is_broken
@@ -52,14 +52,14 @@ pub option_rule-padding_rule-requires : goal.option_rule-padding_rule-requires
 option_rule-padding_rule-requires t c =
     let a = c.args in
     let there = fits a.header.now a.at (tested a.header.now a.at c.is_broken.ensures c.if-is_broken.false) in
-    let room = room_skipping a.notes.now a.at c.requires.1 _ there.0 in
-    (omega (arith, there, c.decreases), (omega (arith, there), room, there.1, c.requires.3))
+    let room = room_skipping a.notes.now a.at c.requires.0 _ there.0 in
+    (omega (arith, there, c.decreases), (room, there.1, c.requires.2))
 
 pub option_rule-returns-in_default : goal.option_rule-returns-in_default
 option_rule-returns-in_default t c = λ before p.
     let a = c.args in
     let unbroken = tested a.header.now a.at c.is_broken.ensures c.if-is_broken.false in
-    at_skipped before _ a.header.now a.at unbroken (stepped a.notes.now 1) (stepped_noted a.notes.now before p 1) c.requires.0 refl _ _
+    at_skipped before _ a.header.now a.at unbroken (stepped a.notes.now 1) (stepped_noted a.notes.now before p 1) refl _ _
     c.in_default.ensures c.padding_rule.ensures
 
 pub option_rule-returns-then-is_wrong_length : goal.option_rule-returns-then-is_wrong_length
@@ -69,13 +69,13 @@ option_rule-returns-then-is_wrong_length t c = λ before p.
     let wrong = rw c.in-Ok.ensures at (sym c.is_wrong_length.ensures ∙ c.if-is_wrong_length.true) in
     at_wrong before _ a.header.now a.at (stepped a.notes.now 1) refl unbroken wrong
 
-pub option_rule-returns-then-place-ne0 : goal.option_rule-returns-then-place-ne0
-option_rule-returns-then-place-ne0 t c = λ before p.
+pub option_rule-returns-then-is_some : goal.option_rule-returns-then-is_some
+option_rule-returns-then-is_some t c = λ before p.
     let a = c.args in
     let is = c.in-Ok.ensures in
     let unbroken = tested a.header.now a.at c.is_broken.ensures c.if-is_broken.false in
     let right = rw is at (sym c.is_wrong_length.ensures ∙ c.if-is_wrong_length.false) in
-    let there = rw (c.place.ensures, is) at c.if-place-ne0.true in
+    let there = rw (c.place.ensures, is) at (sym c.is_some.ensures ∙ c.if-is_some.true) in
     at_repeated before _ a.header.now a.at (stepped a.notes.now 1) refl unbroken right (rw is at (kind_known c.in-Ok.kind))
     (stepped_noted a.notes.now before p 1) there
 
@@ -84,8 +84,8 @@ option_rule-returns-then-header-next t c =
     let a = c.args in
     let unbroken = tested a.header.now a.at c.is_broken.ensures c.if-is_broken.false in
     let right = sym c.is_wrong_length.ensures ∙ c.if-is_wrong_length.false in
-    with_place a.header.now a.at unbroken a.notes.now _ c.in-Ok.kind c.requires.1.kinds c.requires.0 c.in-Ok.ensures right
-    (sym c.place.ensures ∙ omega (arith, c.if-place-ne0.false)) c.set_place.ensures _ _
+    with_place a.header.now a.at unbroken a.notes.now _ c.in-Ok.kind c.requires.0.kinds c.in-Ok.ensures right
+    (ap is_some (sym c.place.ensures) ∙ sym c.is_some.ensures ∙ c.if-is_some.false) c.set_place.ensures _ _
     (λ before p. at_past before _ _ _ c.if-header-next.true _ p refl)
 
 pub option_rule-padding_rule-requires-2 : goal.option_rule-padding_rule-requires-2
@@ -93,16 +93,16 @@ option_rule-padding_rule-requires-2 t c =
     let a = c.args in
     let there = fits a.header.now a.at (tested a.header.now a.at c.is_broken.ensures c.if-is_broken.false) in
     let room : Room c.set_place.new.self (a.at + get_or a.header.now (a.at + 1) 0) =
-    rw c.set_place.ensures (room_placed a.notes.now a.at c.requires.1 _ there.0 (kind_number c.in-Ok.kind) a.at) in
-    (omega (arith, there, c.decreases), (omega (arith, there), room, there.1, c.requires.3))
+    rw c.set_place.ensures (room_placed a.notes.now a.at c.requires.0 _ there.0 (kind_number c.in-Ok.kind) a.at) in
+    (omega (arith, there, c.decreases), (room, there.1, c.requires.2))
 
 pub option_rule-returns : goal.option_rule-returns
 option_rule-returns t c =
     let a = c.args in
     let unbroken = tested a.header.now a.at c.is_broken.ensures c.if-is_broken.false in
     let right = sym c.is_wrong_length.ensures ∙ c.if-is_wrong_length.false in
-    with_place a.header.now a.at unbroken a.notes.now _ c.in-Ok.kind c.requires.1.kinds c.requires.0 c.in-Ok.ensures right
-    (sym c.place.ensures ∙ omega (arith, c.if-place-ne0.false)) c.set_place.ensures _ _ c.padding_rule-2.ensures
+    with_place a.header.now a.at unbroken a.notes.now _ c.in-Ok.kind c.requires.0.kinds c.in-Ok.ensures right
+    (ap is_some (sym c.place.ensures) ∙ sym c.is_some.ensures ∙ c.if-is_some.false) c.set_place.ensures _ _ c.padding_rule-2.ensures
 
 pub padding_rule-returns-then-header-at : goal.padding_rule-returns-then-header-at
 padding_rule-returns-then-header-at t c = λ before p.

@@ -4,14 +4,10 @@ use mathlib.Core.Path.{◌≡◌, subst}
 use Prim.Native.Nat.{ℕ, ◌+◌, ◌-◌, ◌≤◌, ◌<◌}
 use native.Mathlib.Omega.{arith}
 use lib.ListN.{drop, get_or, length}
-use Rattle.segment.specs.Grammar.{Step, padding_rule}
+use Rattle.segment.specs.Grammar.{padding_rule}
 use Rattle.segment.specs.Internal.{NopsPassed, Outcome}
 use Rattle.segment.proofs.Outcomes.{at_nop}
 use Rattle.segment.proofs.rules.after_nops.Goals as goal
-
-none_passed : (header : List ℕ) (from : ℕ) → NopsPassed header from from
-none_passed header from = λ before k answer notes o.
-    subst (λ (j : ℕ). Outcome before j (padding_rule from (drop from header)) answer notes) (omega arith) o
 
 one_passed : (header : List ℕ) (from at : ℕ) → from ≤ at → at < length header → get_or header at 0 ≡ 1 → NopsPassed header from at
     → NopsPassed header from (at + 1)
@@ -20,19 +16,6 @@ one_passed header from at forward within nop passed = λ before k answer notes o
     let same : k + (at + 1 - from) ≡ k + (at - from) + 1 = omega arith in
     passed before k answer notes
     (at_nop before (k + (at - from)) header at within answer notes nop (subst (λ (j : ℕ). Outcome before j next answer notes) same o))
-
-pub loop-at-init : goal.loop-at-init
-loop-at-init c = record { forward = omega arith; passed = none_passed c.args.header.now c.args.from }
-
-pub returns-then-header-at-ne-NOP : goal.returns-then-header-at-ne-NOP
-returns-then-header-at-ne-NOP c =
-    let l = c.loop-at in
-    record {
-      forward = l.invariant.forward;
-      within = omega arith;
-      no_nop = λ h e. c.if-header-at-ne-NOP.true (omega (arith, e));
-      passed = l.invariant.passed;
-    }
 
 pub loop-at-preserved : goal.loop-at-preserved
 loop-at-preserved c =
