@@ -10,11 +10,9 @@ use lib.ListN.{drop, length, take}
 use borrow.Author.Tests.{le-ltb, lt-ltb, ltb-false, ltb-true}
 use Rattle.octets.specs.Octets.{stored}
 use Rattle.octets.proofs.Stores.{first_stored, later_stored, length_stored}
-use Rattle.segment.specs.declared.Options.{Options}
-use Rattle.writer.specs.Writing.{shown_writing, writing}
-use Rattle.writer.specs.declared.Header.{Header}
+use Rattle.writer.specs.Writing.{writing}
 use Rattle.writer.specs.declared.Ports.{Ports}
-use Rattle.writer.specs.declared.Writing.{Writing}
+use Rattle.writer.specs.Writing as writer_answer
 use Rattle.writer.proofs.Answers as writer
 use Rattle.writer.proofs.Lengths.{length_options, length_written, units_most}
 use Rattle.connection.specs.Calls.{acknowledgment, called}
@@ -58,12 +56,9 @@ module _ (k : Connection) (ports : Ports) (clock : ℕ) (buffer : List ℕ) wher
   pub writes_if : since ≤ clock → length octets ≤ length buffer → a ≡ wrote
   writes_if on room = on_time on ∙ ap (answered_by k) (writer.writes_if (own_header k ports) (own_options k clock) buffer room)
 
-  -- where the clock is not refused, by the case that the code's writer answered
-  pub by_writing : since ≤ clock → (header : Header) (options : Options) → header ≡ own_header k ports → options ≡ own_options k clock
-      → (w v : Writing) → w ≡ v → (exit : List ℕ) → shown_writing w exit ≡ writing header options buffer
-      → answered_by k (shown_writing v exit) ≡ a
-  by_writing on header options x y w v same exit e =
-      (λ i. answered_by k (shown_writing (sym same i) exit)) ∙ ap (answered_by k) (e ∙ (λ i. writing (x i) (y i) buffer)) ∙ sym (on_time on)
+  -- where the clock is not refused, as the writer answered
+  pub by_writing : since ≤ clock → {w : writer_answer.Answer} → w ≡ writing (own_header k ports) (own_options k clock) buffer → answered_by k w ≡ a
+  by_writing on e = ap (answered_by k) e ∙ sym (on_time on)
 
   by_cases : (P : Answer → Type 0) → (clock < since → P (refused 8 buffer k))
       → (since ≤ clock → length buffer < length octets → P (refused 7 buffer k)) → (since ≤ clock → length octets ≤ length buffer → P wrote) → P a

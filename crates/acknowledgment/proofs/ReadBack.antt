@@ -10,13 +10,11 @@ use Rattle.laws.proofs.Choices.{either}
 use Rattle.serial.specs.declared.Range.{Range}
 use Rattle.serial.specs.declared.Stamp.{Stamp}
 use Rattle.octets.specs.Octets.{big_endian}
-use Rattle.segment.specs.Options.{block_list}
 use Rattle.segment.specs.Reading.{read_as, reading}
+use Rattle.std.specs.Prelude.{Some, None}
 use Rattle.segment.specs.declared.Options.{Options}
-use Rattle.segment.specs.declared.Timestamps.{Timestamps}
-use Rattle.writer.specs.Writing.{block_room, blocks_of_list, fitting, mss_written, others_written, scale_written, segment_written, timestamps_written}
+use Rattle.writer.specs.Writing.{block_room, fitting, mss_written, others_written, scale_written, segment_written, timestamps_written}
 use Rattle.writer.specs.declared.Ports.{Ports}
-use Rattle.writer.proofs.BlockLists.{blocks_back, list_back}
 use Rattle.writer.proofs.Lengths.{fits, length_written}
 use Rattle.writer.proofs.ReadBack.{buffer_read_back}
 use Rattle.receive.specs.Ranges.{ranges_of}
@@ -26,14 +24,10 @@ use Rattle.acknowledgment.specs.ReadBack.{own_octets, own_segment}
 
 -- room for so many blocks beside the timestamps
 stamps_room : (active : Bool) (value echoed : Stamp)
-    → block_room (length (timestamps_written false (cond active (Timestamps.Pair value echoed) Timestamps.Absent) ++ [])) ≡ cond active 3 4
+    → block_room (length (timestamps_written false (cond active (Some (record { value = value; echoed = echoed })) None) ++ [])) ≡ cond active 3 4
 unfolding timestamps_written big_endian
 stamps_room true value echoed = refl
 stamps_room false value echoed = refl
-
-most_four : (active : Bool) → cond active 3 4 ≤ 4
-most_four true = omega arith
-most_four false = omega arith
 
 module _ (k : Connection) (ports : Ports) (clock : ℕ) where
   abbrev options : Options
@@ -50,19 +44,18 @@ module _ (k : Connection) (ports : Ports) (clock : ℕ) where
   blocks_room = stamps_room k.timestamping.active _ _
 
   -- the blocks that are read are all that the record shows
-  pub all_blocks : block_list (own_segment k ports clock).options.blocks ≡ own_blocks k
+  pub all_blocks : (own_segment k ports clock).options.blocks ≡ own_blocks k
   unfolding own_segment own_options
-  all_blocks = list_back (own_blocks k) (omega (arith, blocks_most, most_four k.timestamping.active))
+  all_blocks = refl
 
   -- and none is left out for want of room
-  pub none_left_out : fitting options ≡ block_list options.blocks
+  pub none_left_out : fitting options ≡ options.blocks
   unfolding own_segment
   none_left_out = fits options (omega (arith, blocks_room, ap length all_blocks, blocks_most))
 
   segment_is : segment_written (own_header k ports) options ≡ own_segment k ports clock
   unfolding segment_written own_segment own_header own_options
   segment_is =
-      let blocks = ap blocks_of_list none_left_out ∙ blocks_back options.blocks in
       let size = length_written (own_header k ports) options in
       λ i. record {
         source = ports.source;
@@ -76,7 +69,7 @@ module _ (k : Connection) (ports : Ports) (clock : ℕ) where
           mss = options.mss;
           scale = options.scale;
           permitted = options.permitted;
-          blocks = blocks i;
+          blocks = none_left_out i;
           timestamps = options.timestamps;
         };
         skipped = 0;

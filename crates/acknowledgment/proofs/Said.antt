@@ -6,9 +6,7 @@ use Prim.Native.Nat.{ℕ, ◌+◌, ◌%◌}
 use lib.ListN.{drop, take}
 use Rattle.serial.specs.declared.Range.{Range}
 use Rattle.octets.specs.Octets.{big_endian}
-use Rattle.offers.specs.declared.Scale.{Scale}
-use Rattle.segment.specs.Options.{block_list}
-use Rattle.segment.specs.declared.Mss.{Mss}
+use Rattle.std.specs.Prelude.{Option, Some, None}
 use Rattle.segment.specs.declared.Segment.{Segment}
 use Rattle.segment.specs.declared.Timestamps.{Timestamps}
 use Rattle.writer.specs.Writing.{mss_written, sack_written, scale_written, timestamps_written}
@@ -28,9 +26,9 @@ module _ (k : Connection) (ports : Ports) (clock : ℕ) where
   ranges = ranges_of k.receive.held
 
   -- what is said of timestamps and ranges, by what is in force
-  abbrev stamps : Bool → Timestamps
+  abbrev stamps : Bool → Option Timestamps
   stamps active =
-      cond active (Timestamps.Pair (record { 0 = (clock + k.timestamping.offset) % 4294967296 }) k.timestamping.recent) Timestamps.Absent
+      cond active (Some (record { value = record { 0 = (clock + k.timestamping.offset) % 4294967296 }; echoed = k.timestamping.recent })) None
 
   abbrev blocks : Bool → Bool → List Range
   blocks sack active = cond sack (take (cond active 3 4) ranges) []
@@ -67,29 +65,30 @@ module _ (k : Connection) (ports : Ports) (clock : ℕ) where
 
   -- TSval is (clock + offset) mod 2^32 and TSecr = TS.Recent, if timestamps are in force; else there are none
   pub stamps_said : k.timestamping.active ≡ true
-      → s.options.timestamps ≡ Timestamps.Pair (record { 0 = (clock + k.timestamping.offset) % 4294967296 }) k.timestamping.recent
+      → s.options.timestamps
+      ≡ Some (record { value = record { 0 = (clock + k.timestamping.offset) % 4294967296 }; echoed = k.timestamping.recent })
   unfolding own_segment own_options own_timestamps
   stamps_said active = ap stamps active
 
-  pub no_stamps : k.timestamping.active ≡ false → s.options.timestamps ≡ Timestamps.Absent
+  pub no_stamps : k.timestamping.active ≡ false → s.options.timestamps ≡ None
   unfolding own_segment own_options own_timestamps
   no_stamps not = ap stamps not
 
   -- the first n ranges, if SACK is in force: n is at most 3 with timestamps, 4 without; else there are none
-  pub blocks_said : k.sack ≡ true → block_list s.options.blocks ≡ take (cond k.timestamping.active 3 4) ranges
+  pub blocks_said : k.sack ≡ true → s.options.blocks ≡ take (cond k.timestamping.active 3 4) ranges
   unfolding own_blocks
   blocks_said sack = all_blocks k ports clock ∙ ap (λ t. blocks t k.timestamping.active) sack
 
-  pub no_blocks : k.sack ≡ false → block_list s.options.blocks ≡ []
+  pub no_blocks : k.sack ≡ false → s.options.blocks ≡ []
   unfolding own_blocks
   no_blocks not = all_blocks k ports clock ∙ ap (λ t. blocks t k.timestamping.active) not
 
-  pub no_other_option : (s.options.mss ≡ Mss.Absent) × (s.options.scale ≡ Scale.Absent) × (s.options.permitted ≡ false)
+  pub no_other_option : (s.options.mss ≡ None) × (s.options.scale ≡ None) × (s.options.permitted ≡ false)
   unfolding own_segment own_options
   no_other_option = (refl, refl, refl)
 
   -- The octets after the fixed header: if timestamps, 01 01 08 0A TSval TSecr; then the SACK option, whose octets `sack_start`,
-  -- `left_edge` and `right_edge_lem` of the writer give.
+  -- `left_edge` and `right_edge` of the writer give.
   options_are : drop 20 (own_octets k ports clock) ≡ timestamps_written false (own_timestamps k.timestamping clock) ++ sack_written (own_blocks k)
   unfolding own_segment own_options mss_written scale_written
   options_are =
@@ -97,11 +96,11 @@ module _ (k : Connection) (ports : Ports) (clock : ℕ) where
       ∙ ap (λ (bs : List Range). timestamps_written false (own_timestamps k.timestamping clock) ++ sack_written bs)
       (none_left_out k ports clock ∙ all_blocks k ports clock)
 
-  pub with_timestamps_lem : k.timestamping.active ≡ true → drop 20 (own_octets k ports clock)
+  pub with_timestamps : k.timestamping.active ≡ true → drop 20 (own_octets k ports clock)
       ≡ 1 ∷ 1 ∷ 8 ∷ 10 ∷ (big_endian 4 ((clock + k.timestamping.offset) % 4294967296)
       ++ (big_endian 4 k.timestamping.recent.0 ++ sack_written (cond k.sack (take 3 ranges) [])))
   unfolding own_timestamps own_blocks timestamps_written big_endian
-  with_timestamps_lem active = options_are ∙ (λ i. timestamps_written false (stamps (active i)) ++ sack_written (blocks k.sack (active i)))
+  with_timestamps active = options_are ∙ (λ i. timestamps_written false (stamps (active i)) ++ sack_written (blocks k.sack (active i)))
 
   pub without_timestamps : k.timestamping.active ≡ false → drop 20 (own_octets k ports clock)
       ≡ sack_written (cond k.sack (take 4 ranges) [])

@@ -1,10 +1,8 @@
 -- An acknowledgment, from a record to the octets of the buffer that it is written to (document 01, "Acknowledgments written").
-use Rattle.std.specs.Prelude.{ℕ, ◌/◌, ◌^◌, min, true, false, cond, List, [], eqb, ltb, take}
+use Rattle.std.specs.Prelude.{ℕ, ◌/◌, ◌^◌, min, true, false, cond, List, [], eqb, ltb, take, Option, Some, None, Result, Ok, Err}
 use Rattle.serial.specs.Serial.{stamp_at}
 use Rattle.serial.specs.declared.Range.{Range}
-use Rattle.offers.specs.declared.Scale.{Scale}
 use Rattle.segment.specs.declared.Flags.{Flags}
-use Rattle.segment.specs.declared.Mss.{Mss}
 use Rattle.segment.specs.declared.Options.{Options}
 use Rattle.segment.specs.declared.Timestamps.{Timestamps}
 use Rattle.writer.specs.Writing as writer
@@ -15,9 +13,8 @@ use Rattle.receive.specs.declared.Receive.{Receive}
 use Rattle.timestamps.specs.declared.Timestamping.{Timestamping}
 use Rattle.connection.specs.Operations.{acknowledged}
 use Rattle.connection.specs.declared.Connection.{Connection}
-use Rattle.acknowledgment.specs.declared.AckAnswer.{AckAnswer}
-use Rattle.acknowledgment.specs.declared.AckOutcome.{AckOutcome}
 use Rattle.acknowledgment.specs.declared.AckRefusal.{AckRefusal}
+use Rattle.acknowledgment.specs.declared.Acknowledged.{Acknowledged}
 
 -- flag ACK only
 abbrev pub only_ack : Flags
@@ -32,8 +29,8 @@ unfoldable pub own_header : Connection → Ports → Header
 own_header k ports = record { ports = ports; seq = k.send.nxt; ack = k.receive.nxt; flags = only_ack; window = window_field k.receive }
 
 -- TSval is our timestamp and TSecr = TS.Recent, if timestamps are in force
-unfoldable pub own_timestamps : Timestamping → ℕ → Timestamps
-own_timestamps t clock = cond t.active (Timestamps.Pair (record { 0 = stamp_at clock t.offset }) t.recent) Timestamps.Absent
+unfoldable pub own_timestamps : Timestamping → ℕ → Option Timestamps
+own_timestamps t clock = cond t.active (Some (record { value = record { 0 = stamp_at clock t.offset }; echoed = t.recent })) None
 
 -- the first n ranges, newest first, if SACK is in force: n is at most 3 with timestamps, 4 without
 unfoldable pub own_blocks : Connection → List Range
@@ -42,10 +39,10 @@ own_blocks k = cond k.sack (take (cond k.timestamping.active 3 4) (ranges_of k.r
 -- no other option
 unfoldable pub own_options : Connection → ℕ → Options
 own_options k clock = record {
-  mss = Mss.Absent;
-  scale = Scale.Absent;
+  mss = None;
+  scale = None;
   permitted = false;
-  blocks = writer.blocks_of_list (own_blocks k);
+  blocks = own_blocks k;
   timestamps = own_timestamps k.timestamping clock;
 }
 
@@ -69,20 +66,12 @@ unfoldable pub acknowledging : Connection → Ports → ℕ → List ℕ → Ans
 acknowledging k ports clock buffer =
     cond (ltb clock k.timestamping.since) (refused 8 buffer k) (answered_by k (writer.writing (own_header k ports) (own_options k clock) buffer))
 
--- document 01's number of each refusal and outcome
+-- document 01's number of each refusal
 abbrev pub refusal_number : AckRefusal → ℕ
 refusal_number AckRefusal.ClockBack = 8
 refusal_number AckRefusal.BufferTooShort = 7
 
-abbrev pub outcome_number : AckOutcome → ℕ
-outcome_number (AckOutcome.Written n) = 0
-outcome_number (AckOutcome.Refused why) = refusal_number why
-
-abbrev pub outcome_length : AckOutcome → ℕ
-outcome_length (AckOutcome.Written n) = n
-outcome_length (AckOutcome.Refused why) = 0
-
--- what the code answers, with the buffer afterwards
-abbrev pub shown : AckAnswer → List ℕ → Answer
-shown a buffer =
-    record { number = outcome_number a.outcome; length = outcome_length a.outcome; buffer = buffer; connection = a.connection }
+-- what the code answers, with the buffer afterwards: a refusal leaves the record
+abbrev pub shown : Connection → Result Acknowledged AckRefusal → List ℕ → Answer
+shown k (Ok a) buffer = record { number = 0; length = a.length; buffer = buffer; connection = a.connection }
+shown k (Err why) buffer = refused (refusal_number why) buffer k

@@ -31,13 +31,13 @@ use Rattle.conformance.specs.Marked.Fact.{number, ranges}
 after : List ℕ → ℕ → Connection
 unfolding send_fields scaling segment at own opened permitted option_octets distance_of offset_of big_endian number_at Option-elim
     is_broken padding padding_rule options.fault_at options.fault_in options.is_repeated options.is_wrong_length options.lengths_of
-    options.one_to_four options.option_in options.options_of options.stands_in options_read reading segment_of exceed_limits in_force shifts_in_force
+    options.option_in options.options_of options.stands_in options_read reading segment_of exceed_limits in_force shifts_in_force
     held_of is_out_of_order joined left_of meets no_room range_of ranges_after ranges_of right_of taking.advanced taking.holding taking.taken
     receive.acceptable receive.lacks_room receive.new_part receive.opened send.opened send.is_too_old send.is_new send.acknowledged send.is_current send.is_later
     send.updates_window send.windowed send.taken is_not_syn is_wrong_ack opening opening_from record_from record_with timestamps.opened
     timestamps.is_old timestamps.is_missing rows fed_by timestamps.is_recorded record_after timestamps.taken arriving arriving_read judged settled taken_by
     writing.header_written writing.mss_written writing.timestamps_written writing.scale_written writing.blocks_written writing.sack_written
-    writing.others_written writing.fitting writing.options_written writing.written writing.blocks_of_list writing.writing ack.own_timestamps
+    writing.others_written writing.fitting writing.options_written writing.written writing.writing ack.own_timestamps
     ack.own_blocks ack.own_options ack.acknowledging
 after lefts wl1 =
     cases.record_holding 5500 65035 500 lefts wl1 (record { active = false; recent = record { 0 = 0 }; since = 0; offset = 0 })

@@ -1,7 +1,7 @@
 -- Document 01's "Marked cases M1 to M12" as one table: `worked` is what the definitions give for each case, `paper` what document 01 gives, of
 -- M11 and M12 with document 02's margin, and `marked` of proofs/Marked.antt says that the two are equal. Every record in it is one that
 -- an opening gave, or an opening and the segments after it.
-use Rattle.std.specs.Prelude.{ℕ, ◌-◌, ◌^◌, Bool, true, false, List, [], ◌∷◌, ◌++◌, ltb, ℤ, pos, neg_ℤ, drop, replicate, take}
+use Rattle.std.specs.Prelude.{ℕ, ◌-◌, ◌^◌, Bool, true, false, List, [], ◌∷◌, ◌++◌, ltb, ℤ, pos, neg_ℤ, drop, replicate, take, None, Some}
 use Rattle.serial.specs.Serial.{distance_of, range}
 use Rattle.serial.specs.declared.Range.{Range}
 use Rattle.rto.specs.Calls as rto
@@ -9,7 +9,6 @@ use Rattle.rto.specs.Timer.{new_timer}
 use Rattle.segment.specs.Reading.{reading}
 use Rattle.offers.specs.Offers.{in_force}
 use Rattle.offers.specs.declared.Offers.{Offers}
-use Rattle.offers.specs.declared.Scale.{Scale}
 use Rattle.receive.specs.Ranges.{ranges_of}
 use Rattle.send.specs.Send as send
 use Rattle.send.specs.declared.AckFields.{AckFields}
@@ -36,7 +35,7 @@ send_fields seq ack window = record { seq = record { 0 = seq }; ack = record { 0
 
 -- window scaling offered with this shift, and nothing else
 unfoldable pub scaling : ℕ → Offers
-scaling shift = record { scale = Scale.Shift shift; timestamps = false; sack = false }
+scaling shift = record { scale = Some shift; timestamps = false; sack = false }
 
 -- a segment of the peer with ACK: SEQ, options, octets of payload; and its arrival, without options
 unfoldable pub segment : ℕ → List ℕ → ℕ → List ℕ
@@ -49,7 +48,7 @@ at seq payload = arrival 0 (unread (segment seq [] payload))
 unfoldable pub own : Setup
 own = record {
   iss = record { 0 = 1000 };
-  offers = record { scale = Scale.Absent; timestamps = true; sack = true };
+  offers = record { scale = None; timestamps = true; sack = true };
   window = 65535;
   offset = 0;
 }

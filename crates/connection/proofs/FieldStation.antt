@@ -8,6 +8,7 @@ use mathlib.Core.Path.{◌≡◌, refl, sym, ap, ◌∙◌}
 use Prim.Native.Nat.{ℕ}
 use native.Mathlib.Omega.{arith}
 use borrow.Author.Tests.{eq-eqb}
+use Rattle.std.specs.Prelude.{Ok, Err}
 use Rattle.laws.specs.Lists.{IsLargest}
 use Rattle.field_station.specs.Demands.{lack_value}
 use Rattle.field_station.specs.declared.Lack.{Lack}
@@ -18,10 +19,11 @@ use Rattle.rto.specs.Exact.{exact_run, unset}
 use Rattle.rto.specs.Timer.{new_timer}
 use Rattle.segment.specs.declared.Segment.{Segment}
 use Rattle.connection.specs.declared.Connection.{Connection}
-use Rattle.connection.specs.declared.OpenOutcome.{OpenOutcome}
-use Rattle.connection.specs.declared.ProfileOutcome.{ProfileOutcome}
+use Rattle.connection.specs.declared.OpenRefusal.{OpenRefusal}
+use Rattle.connection.specs.declared.Opened.{Opened}
+use Rattle.connection.specs.declared.ProfileRefusal.{ProfileRefusal}
 use Rattle.connection.specs.declared.Setup.{Setup}
-use Rattle.connection.specs.Numbers.{open_number, open_place, open_skipped, profile_number}
+use Rattle.connection.specs.Numbers.{open_refusal_number, open_refusal_place, profile_refusal_number}
 use Rattle.connection.specs.Record.{Sound, blank}
 use Rattle.connection.specs.Opening.{OpeningAnswer, mss_of, peer_offers, shown_open}
 use Rattle.connection.specs.Profile.{Profiled, as_opened, lack_in, lacking, shown_profile, under_profile}
@@ -114,18 +116,18 @@ module _ (way : Way) (own : Setup) (clock : ℕ) (i : Incoming) (calls : List Ca
       let o = opened_any way own clock i in
       (sound_always opened o calls, timer_follows opened o calls, demand_3_in_record opened o calls, largest_window opened o calls)
 
--- each case of an answer shows the outcome, or what is lacking, and the record as it holds them
-pub opening_shown : (outcome : OpenOutcome) (k : Connection)
-    → let held : OpeningAnswer = record { number = open_number outcome; place = open_place outcome; skipped = open_skipped outcome; connection = k } in
-    (shown_open (record { outcome = outcome; connection = k }) ≡ held)
-    × (shown_profile (record { outcome = ProfileOutcome.Opening outcome; connection = k }) ≡ record { opening = held; lack = none })
-opening_shown outcome k = (refl, refl)
+-- each case of an answer shows the record and the count, or the refusal beside the blank record, or what is lacking, as it holds them
+pub opening_shown : (opened : Opened) (why : OpenRefusal)
+    → let held : OpeningAnswer = record { number = 0; place = none; skipped = some opened.skipped; connection = opened.connection } in
+    let refused : OpeningAnswer = record { number = open_refusal_number why; place = open_refusal_place why; skipped = none; connection = blank } in
+    (shown_open (Ok opened) ≡ held) × (shown_profile (Ok opened) ≡ record { opening = held; lack = none })
+    × (shown_open (Err why) ≡ refused) × (shown_profile (Err (ProfileRefusal.Opening why)) ≡ record { opening = refused; lack = none })
+opening_shown _ _ = (refl, refl, refl, refl)
 
-pub lacking_shown : (lack : Lack) (k : Connection)
-    → shown_profile (record { outcome = ProfileOutcome.Lacking lack; connection = k })
-    ≡ record { opening = record { number = 17; place = none; skipped = none; connection = k }; lack = some (lack_value lack) }
-lacking_shown lack k = refl
+pub lacking_shown : (lack : Lack) → shown_profile (Err (ProfileRefusal.Lacking lack))
+    ≡ record { opening = record { number = 17; place = none; skipped = none; connection = blank }; lack = some (lack_value lack) }
+lacking_shown lack = refl
 
-pub outcomes_numbered : (outcome : OpenOutcome) (lack : Lack)
-    → (profile_number (ProfileOutcome.Opening outcome) ≡ open_number outcome) × (profile_number (ProfileOutcome.Lacking lack) ≡ 17)
-outcomes_numbered outcome lack = (refl, refl)
+pub outcomes_numbered : (why : OpenRefusal) (lack : Lack)
+    → (profile_refusal_number (ProfileRefusal.Opening why) ≡ open_refusal_number why) × (profile_refusal_number (ProfileRefusal.Lacking lack) ≡ 17)
+outcomes_numbered why lack = (refl, refl)

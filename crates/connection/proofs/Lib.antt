@@ -14,3 +14,5 @@ pub mod Cases
 pub mod Runs
 pub mod Largest
 pub mod Rfc5961
+pub mod Exits
+pub mod Blocks

@@ -5,13 +5,12 @@ use mathlib.Core.List.{List}
 use mathlib.Core.Path.{◌≡◌, refl, sym, ap, ◌∙◌}
 use Prim.Native.Nat.{ℕ}
 use lib.Dec.{ltb}
+use Rattle.std.specs.Prelude.{None}
 use Rattle.receive.specs.Window as receive
 use Rattle.segment.specs.Reading.{reading}
 use Rattle.segment.specs.declared.Segment.{Segment}
-use Rattle.segment.specs.declared.Timestamps.{Timestamps}
 use Rattle.send.specs.Send as send
 use Rattle.timestamps.specs.Timestamps.{is_missing}
-use Rattle.timestamps.specs.declared.Tsval.{Tsval}
 use Rattle.timestamps.proofs.Laws.{missing_given}
 use Rattle.connection.specs.declared.Connection.{Connection}
 use Rattle.connection.specs.declared.Setup.{Setup}
@@ -53,14 +52,14 @@ refusal_leaves k clock octets e =
     ∙ (λ i. unchanged k (record { number = (arriving k clock octets).decision.number; action = e i }) (place i) (skipped i))
 
 -- where timestamps are in force, what has none is not taken: it leaves the record, and has no part
-pub unstamped_left : (k : Connection) (clock : ℕ) (s : Segment) → k.timestamping.active ≡ true → s.options.timestamps ≡ Timestamps.Absent
+pub unstamped_left : (k : Connection) (clock : ℕ) (s : Segment) → k.timestamping.active ≡ true → s.options.timestamps ≡ None
     → ((arriving_read k clock s).connection ≡ k) × ((arriving_read k clock s).part ≡ record { from = 0; to = 0 })
 unfolding rows
 unstamped_left k clock s active lacks =
     arriving_cases k clock s (λ a. (a.connection ≡ k) × (a.part ≡ record { from = 0; to = 0 }))
     (λ clear.
     let none_here = ap (λ t. is_missing k.timestamping (tsval_of t) s.flags.rst) lacks in
-    let no_rst = ap (is_missing k.timestamping Tsval.Absent) (clear 26) in
+    let no_rst = ap (is_missing k.timestamping None) (clear 26) in
     absurd (false≢true (sym (clear 21) ∙ none_here ∙ no_rst ∙ missing_given k.timestamping clock active)))
     (λ d place skipped drops. (refl, refl))
 

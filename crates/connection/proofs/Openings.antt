@@ -8,6 +8,7 @@ use mathlib.Core.Path.{◌≡◌, refl, sym, ap, subst, ◌∙◌}
 use Prim.Native.Nat.{ℕ, ◌+◌, ◌%◌, ◌^◌, ◌<◌, ◌≤◌}
 use native.Mathlib.Omega.{arith}
 use borrow.Author.Tests.{eq-eqb, ne_eqb, not-false}
+use Rattle.std.specs.Prelude.{Option, None, Some}
 use Rattle.laws.proofs.Choices.{either, if_some, neither}
 use Rattle.serial.specs.declared.Stamp.{Stamp}
 use Rattle.offers.specs.Offers.{exceed_limits, in_force}
@@ -16,7 +17,6 @@ use Rattle.offers.proofs.Limits.{shifts_most, window_most}
 use Rattle.receive.specs.Ranges.{held_of, ranges_of}
 use Rattle.receive.specs.Window as receive
 use Rattle.segment.specs.Reading.{reading}
-use Rattle.segment.specs.declared.Mss.{Mss}
 use Rattle.segment.specs.declared.Segment.{Segment}
 use Rattle.segment.specs.declared.Timestamps.{Timestamps}
 use Rattle.segment.proofs.Readable.{readable}
@@ -155,11 +155,11 @@ module _ (syn : Segment) where
   pub scale_offered : (peer_offers syn).scale ≡ syn.options.scale
   scale_offered = refl
 
-  pub timestamps_offered : (value echoed : Stamp) → syn.options.timestamps ≡ Timestamps.Pair value echoed
+  pub timestamps_offered : (value echoed : Stamp) → syn.options.timestamps ≡ Some (record { value = value; echoed = echoed })
       → (peer_offers syn).timestamps ≡ true
   timestamps_offered value echoed has = rw has
 
-  pub timestamps_not_offered : syn.options.timestamps ≡ Timestamps.Absent → (peer_offers syn).timestamps ≡ false
+  pub timestamps_not_offered : syn.options.timestamps ≡ None → (peer_offers syn).timestamps ≡ false
   timestamps_not_offered lacks = rw lacks
 
   pub sack_offered : (peer_offers syn).sack ≡ syn.options.permitted
@@ -182,13 +182,13 @@ pub record Opens (own : Setup) (clock : ℕ) (syn : Segment) (force : InForce) (
   pub wl1 : k.send.wl1 ≡ syn.seq
   pub wl2_with_ack : syn.flags.ack ≡ true → k.send.wl2.0 ≡ syn.ack.0
   pub wl2_without : syn.flags.ack ≡ false → k.send.wl2.0 ≡ own.iss.0
-  pub recent : (value echoed : Stamp) → force.timestamps ≡ true → syn.options.timestamps ≡ Timestamps.Pair value echoed
+  pub recent : (value echoed : Stamp) → force.timestamps ≡ true → syn.options.timestamps ≡ Some (record { value = value; echoed = echoed })
       → k.timestamping.recent ≡ value
   pub recent_none : force.timestamps ≡ false → k.timestamping.recent.0 ≡ 0
   pub since : k.timestamping.since ≡ clock
   pub offset : k.timestamping.offset ≡ own.offset
-  pub mss : (n : ℕ) → syn.options.mss ≡ Mss.Octets n → k.mss ≡ n
-  pub mss_none : syn.options.mss ≡ Mss.Absent → k.mss ≡ 536
+  pub mss : (n : ℕ) → syn.options.mss ≡ Some n → k.mss ≡ n
+  pub mss_none : syn.options.mss ≡ None → k.mss ≡ 536
   pub no_ranges : ranges_of k.receive.held ≡ []
   pub timer : k.timer ≡ record { srtt = 0; rttvar = 0; sampled = false; timeout = 1000 }
 
@@ -196,7 +196,7 @@ module _ (own : Setup) (clock : ℕ) (syn : Segment) where
   abbrev force : InForce
   force = in_force own.offers (peer_offers syn)
 
-  abbrev stamp_of : Timestamps → Stamp
+  abbrev stamp_of : Option Timestamps → Stamp
   stamp_of stamps = timestamps.stamp_of (tsval_of stamps)
 
   record_opens : exceed_limits own.offers own.window ≡ false → Opens own clock syn force (record_from own clock syn)

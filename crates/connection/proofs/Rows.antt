@@ -8,6 +8,7 @@ use mathlib.Core.Path.{◌≡◌, refl}
 use Prim.Native.Nat.{ℕ, ◌^◌, ◌<◌, ◌≤◌}
 use lib.Dec.{eqb, ltb}
 use lib.ListN.{length}
+use Rattle.std.specs.Prelude.{None, Some}
 use Rattle.laws.specs.Lists.{any}
 use Rattle.laws.proofs.Tests.{below, both, equal, holds_not}
 use Rattle.serial.specs.Serial.{is_before, offset_of}
@@ -17,7 +18,6 @@ use Rattle.receive.specs.Ranges.{is_out_of_order, meets, no_room, ranges_of}
 use Rattle.receive.specs.Window.{acceptable, lacks_room, new_part}
 use Rattle.receive.specs.declared.Part.{Part}
 use Rattle.segment.specs.declared.Segment.{Segment}
-use Rattle.segment.specs.declared.Timestamps.{Timestamps}
 use Rattle.send.proofs.AckRange.{too_old_exactly}
 use Rattle.timestamps.specs.Timestamps.{is_missing, is_old, outdated, value_before}
 use Rattle.connection.specs.declared.Connection.{Connection}
@@ -53,11 +53,11 @@ module _ (k : Connection) (clock : ℕ) (s : Segment) where
   as_listed = refl
 
   -- 21: timestamps in force, none here, no RST
-  pub row_21 : s.options.timestamps ≡ Timestamps.Absent → Holds 21 ↔ ((k.timestamping.active ≡ true) × (s.flags.rst ≡ false))
+  pub row_21 : s.options.timestamps ≡ None → Holds 21 ↔ ((k.timestamping.active ≡ true) × (s.flags.rst ≡ false))
   unfolding rows is_missing
   row_21 none_here = rw none_here (both k.timestamping.active (not s.flags.rst) Iff.rfl (holds_not s.flags.rst))
 
-  module _ (value echoed : Stamp) (here : s.options.timestamps ≡ Timestamps.Pair value echoed) where
+  module _ (value echoed : Stamp) (here : s.options.timestamps ≡ Some (record { value = value; echoed = echoed })) where
     pub row_21_not : condition 21 (rows k clock s) ≡ false
     unfolding rows is_missing
     row_21_not = rw here (and-false k.timestamping.active)
@@ -73,7 +73,7 @@ module _ (k : Connection) (clock : ℕ) (s : Segment) where
         (both (not s.flags.rst) _ (holds_not s.flags.rst)
         (both (is_before value.0 k.timestamping.recent.0) _ Iff.rfl (holds_not (outdated k.timestamping clock)))))
 
-  pub row_22_not : s.options.timestamps ≡ Timestamps.Absent → condition 22 (rows k clock s) ≡ false
+  pub row_22_not : s.options.timestamps ≡ None → condition 22 (rows k clock s) ≡ false
   unfolding rows is_old value_before
   row_22_not none_here = rw (none_here, and-false (not s.flags.rst)) (and-false k.timestamping.active)
 

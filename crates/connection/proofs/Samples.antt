@@ -2,12 +2,14 @@
 -- rounded up, at least 1 and at most 16; an MSS below 64 counts as 64", and "The record keeps the MSS". Assumes nothing.
 use mathlib.Core.Bool.{◌&&◌, and-true}
 use mathlib.Core.List.{List, [], ◌∷◌}
-use mathlib.Core.Path.{◌≡◌, refl, ap, ◌∙◌}
-use Prim.Native.Nat.{ℕ, max, min, ◌*◌, ◌≤◌, ◌<◌}
+use mathlib.Core.Path.{◌≡◌, refl, sym, ap, ◌∙◌}
+use Prim.Native.Nat.{ℕ, max, min, ◌+◌, ◌*◌, ◌≤◌, ◌<◌}
 use native.Mathlib.Nat.{lt_of_mul-lt-mul_left}
 use native.Mathlib.Omega.{arith}
 use lib.Dec.{leb}
 use borrow.Author.Tests.{le-leb}
+use Rattle.std.proofs.lemmas.Grind.{div_ceil_times}
+use Rattle.std.specs.Int.{div_ceil}
 use Rattle.rto.specs.Timer.{is_accepted, rounded_up}
 use Rattle.rto.proofs.Value.{LeastNotBelow, rounded_up_least, rounded_up_only}
 use Rattle.connection.specs.declared.Connection.{Connection}
@@ -28,6 +30,13 @@ called_mss k acknowledgment = refl
 pub mss_kept : (calls : List Call) (k : Connection) → (run k calls).mss ≡ k.mss
 mss_kept [] k = refl
 mss_kept (c ∷ cs) k = mss_kept cs (called k c) ∙ called_mss k c
+
+-- std's `div_ceil` is the same division rounded up
+pub ceil_rounds_up : (outstanding c : ℕ) → 0 < c → div_ceil outstanding c ≡ rounded_up outstanding c
+ceil_rounds_up outstanding c pos =
+    let times = div_ceil_times outstanding c pos in
+    sym (rounded_up_only c outstanding pos (div_ceil outstanding c)
+    (record { not_below = omega (arith, times.0); least = λ k h. let below : div_ceil outstanding c < k + 1 = lt_of_mul-lt-mul_left c (omega (arith, times.1)) in omega arith }))
 
 -- the three ways by which it is worked out, where c octets are two segments: one sample, sixteen, or the number rounded up
 module _ (c outstanding : ℕ) (pos : 0 < c) where

@@ -8,6 +8,7 @@ use mathlib.Core.Path.{◌≡◌, refl, sym, ap, subst, ◌∙◌}
 use Prim.Native.Nat.{ℕ, ◌≤◌, ◌<◌}
 use lib.Dec.{leb}
 use borrow.Author.Tests.{le-leb, lt-leb}
+use Rattle.std.specs.Prelude.{None, Some}
 use Rattle.laws.specs.Lists.{filter}
 use Rattle.laws.proofs.Choices.{either}
 use Rattle.serial.specs.Serial.{offset_of, round_trip, stamp_at}
@@ -20,9 +21,7 @@ use Rattle.receive.proofs.Coverage.{received_exactly}
 use Rattle.rto.specs.Calls as rto
 use Rattle.rto.specs.Timer.{is_accepted, sampled_by}
 use Rattle.rto.proofs.Refusal.{accepted_moves, refusal_leaves}
-use Rattle.segment.specs.Options.{block_list}
 use Rattle.segment.specs.declared.Segment.{Segment}
-use Rattle.segment.specs.declared.Timestamps.{Timestamps}
 use Rattle.send.specs.Send as send
 use Rattle.timestamps.specs.Timestamps as timestamps
 use Rattle.connection.specs.declared.Connection.{Connection}
@@ -44,7 +43,7 @@ pub record Takes (k : Connection) (clock : ℕ) (s : Segment) (a : Arrival) : Ty
   pub decision_is : a.decision ≡ record { number = 0; action = take }
   pub part_is : a.part ≡ new_part k.receive s.seq.0 s.len
   pub fin_is : a.fin ≡ fin_inside k.receive s.seq.0 s.len s.flags.fin
-  pub blocks_are : a.blocks ≡ cond k.sack (filter (send.is_listed a.connection.send) (block_list s.options.blocks)) []
+  pub blocks_are : a.blocks ≡ cond k.sack (filter (send.is_listed a.connection.send) s.options.blocks) []
   pub receive_is : a.connection.receive ≡ receive.taken k.receive a.part
   pub send_is : a.connection.send ≡ send.taken k.send (record { seq = s.seq; ack = s.ack; window = s.window })
   pub timestamping_is : a.connection.timestamping
@@ -61,13 +60,13 @@ expected_before k = expected_samples (offset_of k.send.una.0 k.send.nxt.0) k.mss
 
 -- what a take feeds to the timer: the sample R with its N, or nothing
 module _ (k : Connection) (clock : ℕ) (s : Segment) where
-  feeds_one : (value echoed : Stamp) → k.timestamping.active ≡ true → s.options.timestamps ≡ Timestamps.Pair value echoed
+  feeds_one : (value echoed : Stamp) → k.timestamping.active ≡ true → s.options.timestamps ≡ Some (record { value = value; echoed = echoed })
       → send.is_new k.send s.ack.0 ≡ true
       → fed_by k clock s ≡ rto.sample (round_trip_in k clock echoed) (expected_before k) ∷ []
   unfolding fed_by sample_of
   feeds_one value echoed active stamps new = rw (active, new, stamps) refl
 
-  feeds_none : (k.timestamping.active ≡ false) ⊎ ((s.options.timestamps ≡ Timestamps.Absent) ⊎ (send.is_new k.send s.ack.0 ≡ false))
+  feeds_none : (k.timestamping.active ≡ false) ⊎ ((s.options.timestamps ≡ None) ⊎ (send.is_new k.send s.ack.0 ≡ false))
       → fed_by k clock s ≡ []
   unfolding fed_by sample_of
   feeds_none (inl off) = rw off refl
@@ -131,7 +130,7 @@ module _ (k : Connection) (clock : ℕ) (i : Incoming) (s : Segment) (is : field
       ∙ ap (λ (a : Arrival). is_received nxt k.receive x || lies_in a.part (offset_of nxt x)) (sym taken_as))
 
   -- a new ACK with timestamps in force gives a sample, which is fed to the timer
-  module _ (value echoed : Stamp) (active : k.timestamping.active ≡ true) (stamps : s.options.timestamps ≡ Timestamps.Pair value echoed)
+  module _ (value echoed : Stamp) (active : k.timestamping.active ≡ true) (stamps : s.options.timestamps ≡ Some (record { value = value; echoed = echoed }))
       (new : send.is_new k.send s.ack.0 ≡ true) where
     -- as one call in the list of calls on the timer
     pub sample_called : timer_call k (arrival clock i) ≡ rto.sample (round_trip_in k clock echoed) (expected_before k) ∷ []
@@ -157,7 +156,7 @@ module _ (k : Connection) (clock : ℕ) (i : Incoming) (s : Segment) (is : field
 
   -- where one of the three is missing the timer stays
   pub sample_not_fed :
-      (k.timestamping.active ≡ false) ⊎ ((s.options.timestamps ≡ Timestamps.Absent) ⊎ (send.is_new k.send s.ack.0 ≡ false))
+      (k.timestamping.active ≡ false) ⊎ ((s.options.timestamps ≡ None) ⊎ (send.is_new k.send s.ack.0 ≡ false))
       → (arrived k clock i).connection.timer ≡ k.timer
   sample_not_fed missing = timer_after ∙ ap (rto.run k.timer) (feeds_none k clock s missing)
 

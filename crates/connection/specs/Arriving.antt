@@ -1,15 +1,15 @@
 -- An arriving segment: E1 to E6, E8, the verdict, and what a take does. Only take changes the record (house).
-use Rattle.std.specs.Prelude.{Bool, true, false, cond, List, [], ℕ, ltb}
+use Rattle.std.specs.Prelude.{Bool, true, false, cond, List, [], ℕ, ltb, Result, Ok, Err}
 use Rattle.std.proofs.Math.Option.{Option, none, some, Option-elim}
 use Rattle.serial.specs.declared.Range.{Range}
 use Rattle.receive.specs.Window.{fin_inside, new_part}
 use Rattle.receive.specs.declared.Part.{Part}
-use Rattle.segment.specs.Options.{block_list}
 use Rattle.segment.specs.Reading.{reading}
 use Rattle.segment.specs.declared.Segment.{Segment}
 use Rattle.connection.specs.declared.Arrival as declared
+use Rattle.connection.specs.declared.ArriveRefusal.{ArriveRefusal}
 use Rattle.connection.specs.declared.Connection.{Connection}
-use Rattle.connection.specs.Numbers.{Action, Decision, drop_silent, drop_with_ack, outcome_of, outcome_place, outcome_skipped, refuse, reset, take}
+use Rattle.connection.specs.Numbers.{Action, Decision, arrive_refusal_number, arrive_refusal_place, drop_silent, drop_with_ack, refuse, reset, take, verdict_of}
 use Rattle.connection.specs.Verdict.{decided, rows}
 use Rattle.connection.specs.Taking.{listed, record_after}
 
@@ -78,13 +78,15 @@ unfoldable pub arriving : Connection → ℕ → List ℕ → Arrival
 arriving k clock octets =
     Option-elim (reading octets).fields (refusing k (reading octets).number (reading octets).place) (arriving_read k clock)
 
-abbrev pub shown : declared.Arrival → Arrival
-shown a = record {
-  decision = outcome_of a.outcome;
-  place = outcome_place a.outcome;
-  skipped = outcome_skipped a.outcome;
+-- the same of what the code answers to a record
+abbrev pub shown : Connection → Result declared.Arrival ArriveRefusal → Arrival
+shown k (Ok a) = record {
+  decision = verdict_of a.verdict;
+  place = none;
+  skipped = some a.skipped;
   part = a.part;
   fin = a.fin;
-  blocks = block_list a.blocks;
+  blocks = a.blocks;
   connection = a.connection;
 }
+shown k (Err why) = refusing k (arrive_refusal_number why) (arrive_refusal_place why)

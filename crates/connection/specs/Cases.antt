@@ -1,20 +1,19 @@
 -- One case for each verdict and each refusal number that the calls of this crate give, two in which 31 holds beside 29 and beside 30, the
 -- windows of a short run, and a sample with its N of a record that either way opens, computed from the definitions under one statement, of
 -- records that an opening gave, or an opening and the segments after it. Flags are 2 for SYN, 4 for RST, 16 for ACK.
-use Rattle.std.specs.Prelude.{ℕ, ◌+◌, ◌*◌, ◌/◌, true, false, List, [], ◌∷◌, ◌++◌, map, ◌≡◌, refl, length, replicate}
+use Rattle.std.specs.Prelude.{ℕ, ◌+◌, ◌*◌, ◌/◌, true, false, List, [], ◌∷◌, ◌++◌, map, ◌≡◌, refl, length, replicate, None}
 use Rattle.std.proofs.Math.Option.{Option-elim}
 use Rattle.serial.specs.Serial.{distance_of, offset_of, range}
 use Rattle.octets.specs.Octets.{big_endian, number_at}
 use Rattle.field_station.specs.Demands.{first_lack}
 use Rattle.offers.specs.Offers.{exceed_limits, in_force, shifts_in_force}
-use Rattle.offers.specs.declared.Scale.{Scale}
 use Rattle.receive.specs.Ranges.{held_of, is_out_of_order, joined, left_of, meets, no_room, range_of, ranges_after, ranges_of, right_of}
 use Rattle.receive.specs.Taking as taking
 use Rattle.receive.specs.Window as receive
 use Rattle.rto.specs.Calls as rto
 use Rattle.rto.specs.Timer.{new_timer}
 use Rattle.segment.specs.Grammar.{is_broken, padding, padding_rule}
-use Rattle.segment.specs.Options.{fault_at, fault_in, is_repeated, is_wrong_length, lengths_of, one_to_four, option_in, options_of, stands_in}
+use Rattle.segment.specs.Options.{fault_at, fault_in, is_repeated, is_wrong_length, lengths_of, option_in, options_of, stands_in}
 use Rattle.segment.specs.Reading.{options_read, reading, segment_of}
 use Rattle.send.specs.Send as send
 use Rattle.timestamps.specs.Timestamps as timestamps
@@ -44,7 +43,7 @@ stamps value echoed = 1 ∷ 1 ∷ 8 ∷ 10 ∷ (big_endian 4 value ++ big_endian
 abbrev pub own : ℕ → Setup
 own window = record {
   iss = record { 0 = 1000 };
-  offers = record { scale = Scale.Absent; timestamps = true; sack = false };
+  offers = record { scale = None; timestamps = true; sack = false };
   window = window;
   offset = 7;
 }
@@ -164,7 +163,7 @@ pub cases : (map (λ c. c.0) arrivals ≡ map (λ c. c.1) arrivals)
 unfolding arrivals numbers distance_of offset_of big_endian number_at exceed_limits in_force shifts_in_force held_of is_out_of_order joined left_of meets no_room
     range_of ranges_after ranges_of right_of taking.advanced taking.holding taking.taken receive.acceptable receive.is_window_refused receive.lacks_room
     receive.new_part receive.opened receive.window_opened is_broken padding padding_rule fault_at fault_in is_repeated is_wrong_length lengths_of
-    one_to_four option_in options_of stands_in options_read reading segment_of send.opened send.is_too_old send.is_new send.acknowledged send.is_current send.is_later
+    option_in options_of stands_in options_read reading segment_of send.opened send.is_too_old send.is_new send.acknowledged send.is_current send.is_later
     send.updates_window send.windowed send.taken send.exceeds_window send.sent is_not_syn is_wrong_ack opening opening_from record_from record_with
     timestamps.opened timestamps.is_old timestamps.is_missing timestamps.outdated timestamps.value_before timestamps.is_recorded
     timestamps.replaces_recent timestamps.taken rows fed_by record_after sample_of arriving arriving_read judged settled taken_by sent

@@ -1,33 +1,34 @@
 -- Opening a record (document 01, "Opening", and E9, E10, E11).
-use Rattle.std.specs.Prelude.{Bool, cond, not, ◌&&◌, ◌||◌, List, ℕ, eqb}
-use Rattle.std.proofs.Math.Option.{Option, none, some, Option-elim}
+use Rattle.std.specs.Prelude.{Bool, cond, not, ◌&&◌, ◌||◌, List, ℕ, eqb, Option, None, Some, Result, Ok, Err}
+use Rattle.std.proofs.Math.Option as maybe
+use Rattle.std.proofs.Math.Option.{none, some, Option-elim}
 use Rattle.serial.specs.Serial.{moved_by}
+use Rattle.serial.specs.declared.Stamp.{Stamp}
 use Rattle.offers.specs.Offers.{exceed_limits, in_force}
 use Rattle.offers.specs.declared.InForce.{InForce}
 use Rattle.offers.specs.declared.Offers.{Offers}
 use Rattle.receive.specs.Window as receive
 use Rattle.rto.specs.Timer.{new_timer}
 use Rattle.segment.specs.Reading.{reading}
-use Rattle.segment.specs.declared.Mss.{Mss}
 use Rattle.segment.specs.declared.Segment.{Segment}
 use Rattle.segment.specs.declared.Timestamps.{Timestamps}
 use Rattle.send.specs.Send as send
 use Rattle.send.specs.declared.AckFields.{AckFields}
 use Rattle.timestamps.specs.Timestamps as timestamps
-use Rattle.timestamps.specs.declared.Tsval.{Tsval}
 use Rattle.connection.specs.declared.Connection.{Connection}
-use Rattle.connection.specs.declared.OpenAnswer.{OpenAnswer}
+use Rattle.connection.specs.declared.OpenRefusal.{OpenRefusal}
+use Rattle.connection.specs.declared.Opened.{Opened}
 use Rattle.connection.specs.declared.Setup.{Setup}
-use Rattle.connection.specs.Numbers.{open_number, open_place, open_skipped}
+use Rattle.connection.specs.Numbers.{open_refusal_number, open_refusal_place}
 use Rattle.connection.specs.Record.{blank}
 
 -- the fields of a segment that the send side takes, and those that the timestamps take
 abbrev pub ack_fields_of : Segment → AckFields
 ack_fields_of s = record { seq = s.seq; ack = s.ack; window = s.window }
 
-abbrev pub tsval_of : Timestamps → Tsval
-tsval_of Timestamps.Absent = Tsval.Absent
-tsval_of (Timestamps.Pair value echoed) = Tsval.Value value
+abbrev pub tsval_of : Option Timestamps → Option Stamp
+tsval_of None = None
+tsval_of (Some pair) = Some pair.value
 
 -- what the peer's SYN offers
 abbrev pub peer_offers : Segment → Offers
@@ -50,9 +51,9 @@ unfoldable pub is_wrong_ack : ℕ → Segment → Bool
 is_wrong_ack iss syn = syn.flags.ack && not (eqb syn.ack.0 (moved_by iss 1))
 
 -- no MSS means 536
-abbrev pub mss_of : Mss → ℕ
-mss_of Mss.Absent = 536
-mss_of (Mss.Octets n) = n
+abbrev pub mss_of : Option ℕ → ℕ
+mss_of None = 536
+mss_of (Some n) = n
 
 -- RCV.NXT = Last.ACK.sent = SEQ+1. No ranges are held; the timer is new. The rest goes by what is in force.
 unfoldable pub record_with : InForce → Setup → ℕ → Segment → Connection
@@ -72,12 +73,12 @@ record_from own clock syn = record_with (in_force own.offers (peer_offers syn)) 
 -- the kind octet at fault, with an opened record how many unknown options were skipped
 pub record OpeningAnswer : Type 0 where
   pub number : ℕ
-  pub place : Option ℕ
-  pub skipped : Option ℕ
+  pub place : maybe.Option ℕ
+  pub skipped : maybe.Option ℕ
   pub connection : Connection
 
 -- a refused opening answers its number, and the place if there is one, beside the blank record
-abbrev pub refused_opening : ℕ → Option ℕ → OpeningAnswer
+abbrev pub refused_opening : ℕ → maybe.Option ℕ → OpeningAnswer
 refused_opening number place = record { number = number; place = place; skipped = none; connection = blank }
 
 unfoldable pub opening_from : Setup → ℕ → Segment → OpeningAnswer
@@ -96,10 +97,7 @@ opening own clock octets =
     cond (exceeds_limits own) (refused_opening 9 none)
     (Option-elim (reading octets).fields (refused_opening (reading octets).number (reading octets).place) (opening_from own clock))
 
-abbrev pub shown_open : OpenAnswer → OpeningAnswer
-shown_open a = record {
-  number = open_number a.outcome;
-  place = open_place a.outcome;
-  skipped = open_skipped a.outcome;
-  connection = a.connection;
-}
+-- the same of what the code answers
+abbrev pub shown_open : Result Opened OpenRefusal → OpeningAnswer
+shown_open (Ok opened) = record { number = 0; place = none; skipped = some opened.skipped; connection = opened.connection }
+shown_open (Err why) = refused_opening (open_refusal_number why) (open_refusal_place why)

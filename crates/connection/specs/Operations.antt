@@ -1,15 +1,15 @@
 -- The other operations on a record: document 01's E12, E13, expiry, and what a written acknowledgment does to the record.
-use Rattle.std.specs.Prelude.{ℕ}
+use Rattle.std.specs.Prelude.{ℕ, Result, Ok, Err}
 use Rattle.receive.specs.Taking as taking
 use Rattle.receive.specs.Window as receive
 use Rattle.receive.specs.declared.Receive.{Receive}
+use Rattle.receive.specs.declared.WindowRefused.{WindowRefused}
 use Rattle.rto.specs.Timer as rto
 use Rattle.rto.specs.declared.Timer.{Timer}
 use Rattle.send.specs.Send as send
 use Rattle.send.specs.declared.Send.{Send}
+use Rattle.send.specs.declared.SentRefused.{SentRefused}
 use Rattle.connection.specs.declared.Connection.{Connection}
-use Rattle.connection.specs.declared.SentAnswer.{SentAnswer}
-use Rattle.connection.specs.declared.WindowAnswer.{WindowAnswer}
 
 -- the answer to octets noted as sent and to a new receive window, in document 01's terms: 0 or the refusal's number, and the record
 -- afterwards
@@ -52,8 +52,9 @@ with_timer k t = record {
 unfoldable pub sent : Connection → ℕ → CallAnswer
 sent k n = record { number = (send.sent k.send n).number; connection = with_send k (send.sent k.send n).send }
 
-abbrev pub shown_sent : SentAnswer → CallAnswer
-shown_sent a = record { number = send.number_of a.outcome; connection = a.connection }
+abbrev pub shown_sent : Connection → Result Connection SentRefused → CallAnswer
+shown_sent k (Ok after) = record { number = 0; connection = after }
+shown_sent k (Err why) = record { number = send.number_of why; connection = k }
 
 -- opening the receive window, or E13
 unfoldable pub window_opened : Connection → ℕ → CallAnswer
@@ -62,8 +63,9 @@ window_opened k window = record {
   connection = with_receive k (receive.window_opened k.receive window).receive;
 }
 
-abbrev pub shown_window : WindowAnswer → CallAnswer
-shown_window a = record { number = receive.number_of a.outcome; connection = a.connection }
+abbrev pub shown_window : Connection → Result Connection WindowRefused → CallAnswer
+shown_window k (Ok after) = record { number = 0; connection = after }
+shown_window k (Err why) = record { number = receive.number_of why; connection = k }
 
 -- an expiry changes only the timer
 unfoldable pub expired : Connection → Connection

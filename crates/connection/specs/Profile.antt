@@ -1,14 +1,14 @@
 -- Opening under the field-station profile (document 02, P13, whose term it is): E17 after E11.
-use Rattle.std.specs.Prelude.{cond, List, ℕ, eqb}
+use Rattle.std.specs.Prelude.{cond, List, ℕ, eqb, Result, Ok, Err}
 use Rattle.std.proofs.Math.Option.{Option, none, some, Option-elim}
-use Rattle.field_station.specs.Demands.{first_lack}
+use Rattle.field_station.specs.Demands.{first_lack, lack_value}
 use Rattle.offers.specs.declared.Offers.{Offers}
 use Rattle.segment.specs.Reading.{reading}
 use Rattle.segment.specs.declared.Segment.{Segment}
-use Rattle.connection.specs.declared.ProfileAnswer.{ProfileAnswer}
+use Rattle.connection.specs.declared.Opened.{Opened}
+use Rattle.connection.specs.declared.ProfileRefusal.{ProfileRefusal}
 use Rattle.connection.specs.declared.Setup.{Setup}
-use Rattle.connection.specs.Numbers.{profile_lack, profile_number, profile_place, profile_skipped}
-use Rattle.connection.specs.Opening.{OpeningAnswer, mss_of, opening, opening_read, peer_offers, refused_opening}
+use Rattle.connection.specs.Opening.{OpeningAnswer, mss_of, opening, opening_read, peer_offers, refused_opening, shown_open}
 
 -- the first demand that is not met by our offers and the peer's SYN, with the default of its MSS applied
 abbrev pub lack_in : Offers → Segment → Option ℕ
@@ -39,13 +39,8 @@ unfoldable pub profile_opening : Setup → ℕ → List ℕ → Profiled
 profile_opening own clock octets =
     Option-elim (reading octets).fields (as_opened (opening own clock octets)) (under_profile own.offers (opening own clock octets))
 
-abbrev pub shown_profile : ProfileAnswer → Profiled
-shown_profile a = record {
-  opening = record {
-    number = profile_number a.outcome;
-    place = profile_place a.outcome;
-    skipped = profile_skipped a.outcome;
-    connection = a.connection;
-  };
-  lack = profile_lack a.outcome;
-}
+-- the same of what the code answers
+abbrev pub shown_profile : Result Opened ProfileRefusal → Profiled
+shown_profile (Ok opened) = as_opened (shown_open (Ok opened))
+shown_profile (Err (ProfileRefusal.Opening why)) = as_opened (shown_open (Err why))
+shown_profile (Err (ProfileRefusal.Lacking lack)) = lacking (lack_value lack)

@@ -1,12 +1,11 @@
 -- What taking a segment does to a record, part by part (document 01, "What taking does", and document 02, P4).
-use Rattle.std.specs.Prelude.{cond, ◌&&◌, List, [], ◌∷◌, ℕ, max, min, ◌*◌}
+use Rattle.std.specs.Prelude.{cond, ◌&&◌, List, [], ◌∷◌, ℕ, max, min, ◌*◌, Option, None, Some}
 use Rattle.serial.specs.declared.Range.{Range}
 use Rattle.laws.specs.Lists.{filter}
 use Rattle.receive.specs.Taking as receive
 use Rattle.receive.specs.Window.{new_part}
 use Rattle.rto.specs.Calls.{Call, run, sample}
 use Rattle.rto.specs.Timer.{rounded_up}
-use Rattle.segment.specs.Options.{block_list}
 use Rattle.segment.specs.declared.Segment.{Segment}
 use Rattle.segment.specs.declared.Timestamps.{Timestamps}
 use Rattle.send.specs.Send as send
@@ -28,9 +27,9 @@ abbrev pub expected_in : Connection → ℕ
 expected_in k = expected_samples (send.outstanding k.send) k.mss
 
 -- the sample R that the segment's TSecr gives, with its N
-unfoldable pub sample_of : Timestamping → ℕ → Timestamps → ℕ → List Call
-sample_of t clock Timestamps.Absent n = []
-sample_of t clock (Timestamps.Pair value echoed) n = sample (timestamps.sample_at t clock echoed.0) n ∷ []
+unfoldable pub sample_of : Timestamping → ℕ → Option Timestamps → ℕ → List Call
+sample_of t clock None n = []
+sample_of t clock (Some pair) n = sample (timestamps.sample_at t clock pair.echoed.0) n ∷ []
 
 -- a new ACK with timestamps gives a sample: what a take feeds to the timer, one that E14 refuses too, which the timer leaves out
 unfoldable pub fed_by : Connection → ℕ → Segment → List Call
@@ -51,4 +50,4 @@ record_after k clock s = record {
 
 -- the peer's SACK blocks in their order, only if SACK is in force, judged by the record after the take
 unfoldable pub listed : Connection → Segment → List Range
-listed after s = cond after.sack (filter (send.is_listed after.send) (block_list s.options.blocks)) []
+listed after s = cond after.sack (filter (send.is_listed after.send) s.options.blocks) []

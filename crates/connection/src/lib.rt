@@ -8,8 +8,13 @@ mod opening;
 mod profile;
 mod taking;
 
-ghost use Rattle.std.specs.Prelude.{◌≡◌};
-ghost use Rattle.connection.specs.Numbers.{arrive_refusal_number, open_number, open_refusal_number, outcome_of, outcome_place, outcome_skipped, profile_number, reason_number, verdict_of};
+ghost use Rattle.std.specs.Prelude.{◌≡◌, IfOk, Ok};
+ghost use Rattle.std.proofs.Common.{rules};
+ghost use Rattle.std.proofs.Math.Option.{none, some};
+ghost use Rattle.connection.specs.declared.ArriveRefusal.{ArriveRefusal};
+ghost use Rattle.connection.specs.declared.OpenRefusal.{OpenRefusal};
+ghost use Rattle.connection.specs.declared.ProfileRefusal.{ProfileRefusal};
+ghost use Rattle.connection.specs.Numbers.{arrive_refusal_number, open_refusal_number, profile_refusal_number, reason_number, verdict_of};
 ghost use Rattle.connection.specs.Record.{Sound, blank};
 ghost use Rattle.connection.specs.Opening.{opening, opening_read, shown_open};
 ghost use Rattle.connection.specs.Profile.{profile_opening, profile_opening_read, shown_profile};
@@ -18,13 +23,15 @@ ghost use Rattle.connection.specs.Operations.{expired, sent, shown_sent, shown_w
 
 use field_station::Lack;
 use offers::Offers;
-use receive::{Part, Receive, WindowOutcome};
+use receive::{Part, Receive, WindowRefused};
+use refusals::Numbered;
 use rto::Timer;
-use segment::{Reading, Refusal, SackBlocks, Segment};
-use send::{Send, SentOutcome};
-use serial::Seq;
+use segment::{Refusal, SackBlocks, Segment};
+use send::{Send, SentRefused};
+use serial::{Seq, Stamp};
 use timestamps::Timestamping;
 
+// `Sound` is a premise and no invariant, as document 01 has it: `receive`, `send` and `timestamps` take values too that are not sound.
 #[derive(Clone, Copy)]
 pub struct Connection {
     pub receive: Receive,
@@ -48,6 +55,14 @@ pub struct Setup {
     pub offset: u32,
 }
 
+// What an opening gives.
+#[derive(Clone, Copy)]
+pub struct Opened {
+    pub connection: Connection,
+    // How many unknown options of the SYN segment were skipped.
+    pub skipped: usize,
+}
+
 // Why an opening is refused.
 #[derive(Clone, Copy)]
 pub enum OpenRefusal {
@@ -61,58 +76,33 @@ pub enum OpenRefusal {
     WrongAck,
 }
 
+// Why an opening under the field-station profile (document 02's term) is refused.
 #[derive(Clone, Copy)]
-pub enum OpenOutcome {
-    // How many unknown options of the SYN segment were skipped.
-    Opened(usize),
-    Refused(OpenRefusal),
-}
-
-// Where the opening is refused, the connection is a blank one, the same for every refusal.
-#[derive(Clone, Copy)]
-pub struct OpenAnswer {
-    pub outcome: OpenOutcome,
-    pub connection: Connection,
-}
-
-// What becomes of an opening under the field-station profile (document 02's term).
-#[derive(Clone, Copy)]
-pub enum ProfileOutcome {
+pub enum ProfileRefusal {
     // As without the profile.
-    Opening(OpenOutcome),
+    Opening(OpenRefusal),
     // E17, and the profile's first demand that is not met.
     Lacking(Lack),
 }
 
-// The answer to an opening under the profile: where it is refused, the connection is the same blank one.
-#[derive(Clone, Copy)]
-pub struct ProfileAnswer {
-    pub outcome: ProfileOutcome,
-    pub connection: Connection,
-}
-
-// Why a segment is dropped.
-#[derive(Clone, Copy)]
+// Why a segment is dropped, by document 01's numbers, of 31 document 02's.
+#[derive(Clone, Copy, PartialEq, Eq)]
 pub enum Reason {
-    // 21 and 22.
-    TimestampMissing,
-    TimestampOld,
-    // 23 and 24.
-    ResetOutside,
-    Outside,
-    // 26 to 29.
-    ResetInside,
-    SynInside,
-    AckMissing,
-    AckUnsent,
-    // 31, which stands before 30.
-    AckTooOld,
-    // 30.
-    NoRoom,
+    TimestampMissing = 21,
+    TimestampOld = 22,
+    ResetOutside = 23,
+    Outside = 24,
+    ResetInside = 26,
+    SynInside = 27,
+    AckMissing = 28,
+    AckUnsent = 29,
+    // Stands before 30.
+    AckTooOld = 31,
+    NoRoom = 30,
 }
 
 // What becomes of an arriving segment.
-#[derive(Clone, Copy)]
+#[derive(Clone, Copy, PartialEq, Eq)]
 pub enum Verdict {
     Take,
     // 25.
@@ -131,17 +121,12 @@ pub enum ArriveRefusal {
     ClockBack,
 }
 
-#[derive(Clone, Copy)]
-pub enum ArriveOutcome {
-    // The verdict, and how many unknown options of the segment were skipped.
-    Judged(Verdict, usize),
-    Refused(ArriveRefusal),
-}
-
 // The answer to an arriving segment. Only a take has a new part, a FIN in it, listed SACK blocks and a changed connection.
 #[derive(Clone, Copy)]
 pub struct Arrival {
-    pub outcome: ArriveOutcome,
+    pub verdict: Verdict,
+    // How many unknown options of the segment were skipped.
+    pub skipped: usize,
     pub part: Part,
     // Whether FIN lies in the part.
     pub fin: bool,
@@ -149,24 +134,10 @@ pub struct Arrival {
     pub connection: Connection,
 }
 
-// The answer to octets noted as sent, and to a new receive window: where it is refused, the connection is the one before the call.
-#[derive(Clone, Copy)]
-pub struct SentAnswer {
-    pub outcome: SentOutcome,
-    pub connection: Connection,
-}
+impl Numbered for OpenRefusal {
+    ghost number = { open_refusal_number };
 
-#[derive(Clone, Copy)]
-pub struct WindowAnswer {
-    pub outcome: WindowOutcome,
-    pub connection: Connection,
-}
-
-// Document 01's number of each refusal, reason, verdict and outcome, of 17 and 31 document 02's.
-impl OpenRefusal {
-    pub fn number(self) -> u8
-        ensures { result ≡ open_refusal_number self }
-    {
+    fn number(self) -> u8 {
         match self {
             OpenRefusal::ExceededLimits => 9,
             OpenRefusal::Segment(why) => why.number(),
@@ -174,27 +145,73 @@ impl OpenRefusal {
             OpenRefusal::WrongAck => 11,
         }
     }
+
+    ghost positive = { Prim.search rules };
 }
 
-impl OpenOutcome {
-    pub fn number(self) -> u8
-        ensures { result ≡ open_number self }
-    {
+impl Numbered for ProfileRefusal {
+    ghost number = { profile_refusal_number };
+
+    fn number(self) -> u8 {
         match self {
-            OpenOutcome::Opened(_) => 0,
-            OpenOutcome::Refused(why) => why.number(),
+            ProfileRefusal::Opening(why) => why.number(),
+            ProfileRefusal::Lacking(_) => 17,
         }
+    }
+
+    ghost positive = { Prim.search rules };
+}
+
+impl Numbered for ArriveRefusal {
+    ghost number = { arrive_refusal_number };
+
+    fn number(self) -> u8 {
+        match self {
+            ArriveRefusal::Segment(why) => why.number(),
+            ArriveRefusal::ClockBack => 8,
+        }
+    }
+
+    ghost positive = { Prim.search rules };
+}
+
+impl From<Refusal> for OpenRefusal {
+    ghost from_gives = { λ why refusal. refusal ≡ OpenRefusal.Segment why };
+
+    fn from(why: Refusal) -> OpenRefusal {
+        OpenRefusal::Segment(why)
     }
 }
 
-impl ProfileOutcome {
-    pub fn number(self) -> u8
-        ensures { result ≡ profile_number self }
-    {
-        match self {
-            ProfileOutcome::Opening(outcome) => outcome.number(),
-            ProfileOutcome::Lacking(_) => 17,
-        }
+impl From<Refusal> for ArriveRefusal {
+    ghost from_gives = { λ why refusal. refusal ≡ ArriveRefusal.Segment why };
+
+    fn from(why: Refusal) -> ArriveRefusal {
+        ArriveRefusal::Segment(why)
+    }
+}
+
+impl From<Refusal> for ProfileRefusal {
+    ghost from_gives = { λ why refusal. refusal ≡ ProfileRefusal.Opening (OpenRefusal.Segment why) };
+
+    fn from(why: Refusal) -> ProfileRefusal {
+        ProfileRefusal::Opening(OpenRefusal::Segment(why))
+    }
+}
+
+impl From<OpenRefusal> for ProfileRefusal {
+    ghost from_gives = { λ why refusal. refusal ≡ ProfileRefusal.Opening why };
+
+    fn from(why: OpenRefusal) -> ProfileRefusal {
+        ProfileRefusal::Opening(why)
+    }
+}
+
+impl From<Lack> for ProfileRefusal {
+    ghost from_gives = { λ lack refusal. refusal ≡ ProfileRefusal.Lacking lack };
+
+    fn from(lack: Lack) -> ProfileRefusal {
+        ProfileRefusal::Lacking(lack)
     }
 }
 
@@ -202,223 +219,197 @@ impl Reason {
     pub fn number(self) -> u8
         ensures { result ≡ reason_number self }
     {
-        match self {
-            Reason::TimestampMissing => 21,
-            Reason::TimestampOld => 22,
-            Reason::ResetOutside => 23,
-            Reason::Outside => 24,
-            Reason::ResetInside => 26,
-            Reason::SynInside => 27,
-            Reason::AckMissing => 28,
-            Reason::AckUnsent => 29,
-            Reason::AckTooOld => 31,
-            Reason::NoRoom => 30,
-        }
+        self as u8
     }
 }
 
 impl Verdict {
+    // Document 01's number.
     pub fn number(self) -> u8
         ensures { result ≡ (verdict_of self).number }
     {
         match self {
             Verdict::Take => 0,
             Verdict::Reset => 25,
-            Verdict::Silent(why) => why.number(),
-            Verdict::WithAck(why) => why.number(),
+            Verdict::Silent(why) | Verdict::WithAck(why) => why.number(),
         }
     }
-}
 
-impl ArriveRefusal {
-    pub fn number(self) -> u8
-        ensures { result ≡ arrive_refusal_number self }
+    fn is_take(self) -> bool
+        ensures { result ≡ is_take (verdict_of self).action }
     {
-        match self {
-            ArriveRefusal::Segment(why) => why.number(),
-            ArriveRefusal::ClockBack => 8,
-        }
-    }
-}
-
-impl ArriveOutcome {
-    pub fn number(self) -> u8
-        ensures { result ≡ (outcome_of self).number }
-    {
-        match self {
-            ArriveOutcome::Judged(verdict, _) => verdict.number(),
-            ArriveOutcome::Refused(why) => why.number(),
-        }
+        matches!(self, Verdict::Take)
     }
 }
 
 impl Connection {
     // Opens a record from the peer's SYN segment: E9, reading, E10, E11.
-    pub fn open(own: Setup, clock: u64, syn: &[u8]) -> OpenAnswer
+    #[tactic(auto, using(crate::proofs::Exits::read_shown, crate::proofs::Exits::unread_opening, crate::proofs::Exits::read_opening), unfolding(crate::specs::Opening::opening))]
+    pub fn open(own: Setup, clock: u64, syn: &[u8]) -> Result<Opened, OpenRefusal>
         ensures answer { shown_open result ≡ opening own clock syn.now }
-        ensures sound { Sound result.connection }
+        ensures sound { IfOk result (λ opened. Sound opened.connection) }
     {
-        let reading = segment::read(syn);
-        match reading {
-            Reading::Refused(why, _) => opening::unreadable(own, why),
-            Reading::Segment(whole, _) => Connection::open_read(own, clock, whole),
-        }
+        opening::within_limits(own)?;
+        let syn = segment::read(syn).outcome?;
+        opening::open_from(own, clock, &syn)
     }
 
     // The same from a SYN segment that has been read: E9, E10, E11.
-    pub fn open_read(own: Setup, clock: u64, syn: Segment) -> OpenAnswer
+    #[tactic(auto, unfolding(crate::specs::Opening::opening_read))]
+    pub fn open_read(own: Setup, clock: u64, syn: Segment) -> Result<Opened, OpenRefusal>
         ensures answer { shown_open result ≡ opening_read own clock syn }
-        ensures sound { Sound result.connection }
+        ensures sound { IfOk result (λ opened. Sound opened.connection) }
     {
-        if opening::exceeds_limits(own) {
-            return opening::refused(OpenRefusal::ExceededLimits);
-        }
-        opening::open_from(own, clock, syn)
+        opening::within_limits(own)?;
+        opening::open_from(own, clock, &syn)
     }
 
     // Opens a record under the field-station profile: E9, reading, E10, E11, E17.
-    pub fn open_under_profile(own: Setup, clock: u64, syn: &[u8]) -> ProfileAnswer
+    #[tactic(auto, using(crate::proofs::Exits::read_shown, crate::proofs::Exits::limits_profile, crate::proofs::Exits::unread_profile, crate::proofs::Exits::read_profile))]
+    pub fn open_under_profile(own: Setup, clock: u64, syn: &[u8]) -> Result<Opened, ProfileRefusal>
         ensures answer { shown_profile result ≡ profile_opening own clock syn.now }
-        ensures sound { Sound result.connection }
+        ensures sound { IfOk result (λ opened. Sound opened.connection) }
     {
-        let reading = segment::read(syn);
-        match reading {
-            Reading::Refused(why, _) => profile::as_opened(opening::unreadable(own, why)),
-            Reading::Segment(whole, _) => Connection::open_read_under_profile(own, clock, whole),
-        }
+        opening::within_limits(own)?;
+        let syn = segment::read(syn).outcome?;
+        profile::open_from(own, clock, &syn)
     }
 
     // The same from a SYN segment that has been read: E9, E10, E11, E17.
-    pub fn open_read_under_profile(own: Setup, clock: u64, syn: Segment) -> ProfileAnswer
+    #[tactic(auto, unfolding(crate::specs::Profile::profile_opening_read, crate::specs::Profile::under_profile, crate::specs::Opening::opening_read))]
+    pub fn open_read_under_profile(
+        own: Setup,
+        clock: u64,
+        syn: Segment,
+    ) -> Result<Opened, ProfileRefusal>
         ensures answer { shown_profile result ≡ profile_opening_read own clock syn }
-        ensures sound { Sound result.connection }
+        ensures sound { IfOk result (λ opened. Sound opened.connection) }
     {
-        let answer = Connection::open_read(own, clock, syn);
-        profile::judge(own.offers, answer, syn)
+        opening::within_limits(own)?;
+        profile::open_from(own, clock, &syn)
     }
 
-    // The record of a refused opening.
+    // The record that stands beside a refused opening.
+    #[tactic(auto, using(crate::proofs::Keeping::blank_sound), unfolding(crate::specs::Record::blank))]
     pub fn blank() -> Connection
         ensures blank { result ≡ blank }
         ensures sound { Sound result }
     {
-        opening::blank_record()
+        let zero = Seq(0);
+        Connection {
+            receive: Receive::new(zero, 0, 0),
+            send: Send {
+                una: zero,
+                nxt: zero,
+                window: 0,
+                largest: 0,
+                shift: 0,
+                wl1: zero,
+                wl2: zero,
+            },
+            timestamping: Timestamping {
+                active: false,
+                recent: Stamp(0),
+                since: 0,
+                offset: 0,
+            },
+            sack: false,
+            mss: 0,
+            timer: Timer::new(),
+        }
     }
 
     // The answer to a segment that arrives at this clock: reading, E8, the verdict, and what taking does.
-    pub fn arrive(self, clock: u64, segment: &[u8]) -> Arrival
+    #[tactic(auto, using(crate::proofs::Exits::read_shown, crate::proofs::Exits::unread_arrival, crate::proofs::Exits::read_arrival))]
+    pub fn arrive(self, clock: u64, segment: &[u8]) -> Result<Arrival, ArriveRefusal>
         requires { Sound self }
-        ensures answer { shown result ≡ arriving self clock segment.now }
-        ensures sound { Sound result.connection }
+        ensures answer { shown self result ≡ arriving self clock segment.now }
+        ensures sound { IfOk result (λ arrival. Sound arrival.connection) }
     {
-        let reading = segment::read(segment);
-        match reading {
-            Reading::Refused(why, _) => {
-                self.unchanged(ArriveOutcome::Refused(ArriveRefusal::Segment(why)))
-            }
-            Reading::Segment(whole, _) => self.arrive_read(clock, whole),
-        }
+        let s = segment::read(segment).outcome?;
+        self.arrive_read(clock, s)
     }
 
     // The same for a segment that has been read, as by a caller who finds the connection by its ports: E8, then the verdict.
-    pub fn arrive_read(self, clock: u64, s: Segment) -> Arrival
+    #[tactic(auto, unfolding(crate::specs::Arriving::arriving_read, crate::specs::Arriving::judged, crate::specs::Arriving::settled))]
+    pub fn arrive_read(self, clock: u64, s: Segment) -> Result<Arrival, ArriveRefusal>
         requires { Sound self }
-        ensures answer { shown result ≡ arriving_read self clock s }
-        ensures sound { Sound result.connection }
+        ensures answer { shown self result ≡ arriving_read self clock s }
+        ensures sound { IfOk result (λ arrival. Sound arrival.connection) }
     {
         if clock < self.timestamping.since {
-            return self.unchanged(ArriveOutcome::Refused(ArriveRefusal::ClockBack));
+            return Err(ArriveRefusal::ClockBack);
         }
-        let verdict = judging::judge(self, clock, s);
-        if is_take(verdict) {
-            return self.take(clock, s);
+        let verdict = self.judge(clock, &s);
+        if verdict.is_take() {
+            return Ok(self.take(clock, &s));
         }
-        self.unchanged(ArriveOutcome::Judged(verdict, s.skipped))
+        Ok(self.unchanged(verdict, s.skipped))
     }
 
     // Notes that `n` octets were sent.
-    pub fn note_sent(self, n: u32) -> SentAnswer
+    #[tactic(auto, unfolding(crate::specs::Operations::sent))]
+    pub fn note_sent(self, n: u32) -> Result<Connection, SentRefused>
         requires { Sound self }
-        ensures answer { shown_sent result ≡ sent self n }
-        ensures sound { Sound result.connection }
+        ensures answer { shown_sent self result ≡ sent self n }
+        ensures sound { IfOk result Sound }
     {
-        let answer = self.send.note_sent(n);
-        let outcome = answer.outcome;
-        let send = answer.send;
-        SentAnswer {
-            outcome,
-            connection: Connection { send, ..self },
-        }
+        let send = self.send.note_sent(n)?;
+        Ok(Connection { send, ..self })
     }
 
     // Opens the receive window.
-    pub fn open_window(self, window: u32) -> WindowAnswer
+    #[tactic(auto, unfolding(crate::specs::Operations::window_opened))]
+    pub fn open_window(self, window: u32) -> Result<Connection, WindowRefused>
         requires { Sound self }
-        ensures answer { shown_window result ≡ window_opened self window }
-        ensures sound { Sound result.connection }
+        ensures answer { shown_window self result ≡ window_opened self window }
+        ensures sound { IfOk result Sound }
     {
-        let answer = self.receive.open_window(window);
-        let outcome = answer.outcome;
-        let receive = answer.receive;
-        WindowAnswer {
-            outcome,
-            connection: Connection { receive, ..self },
-        }
+        let receive = self.receive.open_window(window)?;
+        Ok(Connection { receive, ..self })
     }
 
     // The record after its timer expired.
+    #[tactic(auto, unfolding(crate::specs::Operations::expired))]
     pub fn expire(self) -> Connection
         requires { Sound self }
         ensures expired { result ≡ expired self }
         ensures sound { Sound result }
     {
-        let timer = self.timer.expire();
-        Connection { timer, ..self }
+        Connection {
+            timer: self.timer.expire(),
+            ..self
+        }
     }
 
-    fn take(self, clock: u64, s: Segment) -> Arrival
+    #[tactic(auto, unfolding(crate::specs::Arriving::taken_by))]
+    fn take(self, clock: u64, s: &Segment) -> Arrival
         requires { Sound self }
-        ensures { shown result ≡ taken_by self clock s }
+        ensures answer { shown self (Ok result) ≡ taken_by self clock s.now }
+        ensures sound { Sound result.connection }
     {
-        let options = s.options;
-        let reported = options.blocks;
-        let part = self.receive.new_part(s.seq, s.len);
-        let fin = self.receive.has_fin(s.seq, s.len, s.flags.fin);
-        let connection = taking::record_after(self, clock, s);
-        let blocks = listing::listed(connection.sack, connection.send, reported);
-        let outcome = ArriveOutcome::Judged(Verdict::Take, s.skipped);
+        let connection = self.record_after(clock, s);
         Arrival {
-            outcome,
-            part,
-            fin,
-            blocks,
+            verdict: Verdict::Take,
+            skipped: s.skipped,
+            part: self.receive.new_part(s.seq, s.len),
+            fin: self.receive.has_fin(s.seq, s.len, s.flags.fin),
+            blocks: connection.listed(s),
             connection,
         }
     }
 
     // The answer that leaves the record as it is.
-    fn unchanged(self, outcome: ArriveOutcome) -> Arrival
-        ensures { shown result ≡ unchanged self (outcome_of outcome) (outcome_place outcome) (outcome_skipped outcome) }
+    fn unchanged(self, verdict: Verdict, skipped: usize) -> Arrival
+        ensures { shown self (Ok result) ≡ unchanged self (verdict_of verdict) none (some skipped) }
     {
-        let part = Part { from: 0, to: 0 };
-        let blocks = SackBlocks::Absent;
         Arrival {
-            outcome,
-            part,
+            verdict,
+            skipped,
+            part: Part { from: 0, to: 0 },
             fin: false,
-            blocks,
+            blocks: SackBlocks::none(),
             connection: self,
         }
-    }
-}
-
-fn is_take(verdict: Verdict) -> bool
-    ensures { result ≡ is_take (verdict_of verdict).action }
-{
-    match verdict {
-        Verdict::Take => true,
-        Verdict::Reset => false,
-        Verdict::Silent(_) => false,
-        Verdict::WithAck(_) => false,
     }
 }

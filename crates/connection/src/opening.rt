@@ -1,178 +1,98 @@
 // Opening a record from the peer's SYN segment.
-ghost use Rattle.std.specs.Prelude.{cond, ◌≡◌};
-ghost use Rattle.std.proofs.Math.Option.{none};
-ghost use Rattle.connection.specs.Numbers.{open_refusal_number, open_refusal_place};
-ghost use Rattle.connection.specs.Opening.{exceeds_limits, is_not_syn, is_wrong_ack, mss_of, opening_from, peer_offers, record_from, record_with, refused_opening, shown_open};
-ghost use Rattle.connection.specs.Record.{blank};
-ghost use Rattle.segment.specs.Reading.{fault_place, number_of};
+ghost use Rattle.std.specs.Prelude.{◌≡◌, true, false, IfErr, IfOk, OnOk};
+ghost use Rattle.connection.specs.declared.OpenRefusal.{OpenRefusal};
+ghost use Rattle.connection.specs.Record.{Sound};
+ghost use Rattle.connection.specs.Opening.{exceeds_limits, is_not_syn, is_wrong_ack, mss_of, opening_from, peer_offers, record_from, shown_open};
 
 use super::taking::{ack_fields_of, tsval_of};
-use super::{Connection, OpenAnswer, OpenOutcome, OpenRefusal, Setup};
-use offers::{InForce, Offers};
+use super::{Connection, OpenRefusal, Opened, Setup};
+use offers::Offers;
 use receive::Receive;
 use rto::Timer;
-use segment::{Mss, Refusal, Segment};
+use segment::Segment;
 use send::Send;
-use serial::{Seq, Stamp};
+use serial::Seq;
 use timestamps::Timestamping;
 
 // The MSS of a SYN that has none.
 const DEFAULT_MSS: u16 = 536;
 
-pub fn mss(option: Mss) -> u16
+pub fn mss(option: Option<u16>) -> u16
     ensures { result ≡ mss_of option }
 {
-    match option {
-        Mss::Absent => DEFAULT_MSS,
-        Mss::Octets(octets) => octets,
-    }
+    option.unwrap_or(DEFAULT_MSS)
 }
 
 // What the peer's SYN offers.
-pub fn peer_offers(syn: Segment) -> Offers
-    ensures { result ≡ peer_offers syn }
+pub fn peer_offers(syn: &Segment) -> Offers
+    ensures { result ≡ peer_offers syn.now }
 {
-    let options = syn.options;
-    let scale = options.scale;
-    let pair = options.timestamps;
-    let timestamps = tsval_of(pair).is_present();
-    let sack = options.permitted;
     Offers {
-        scale,
-        timestamps,
-        sack,
+        scale: syn.options.scale,
+        timestamps: syn.options.timestamps.is_some(),
+        sack: syn.options.permitted,
     }
 }
 
 // E9.
-pub fn exceeds_limits(own: Setup) -> bool
-    ensures { result ≡ exceeds_limits own }
+pub fn within_limits(own: Setup) -> Result<(), OpenRefusal>
+    ensures ok { OnOk result (exceeds_limits own ≡ false) }
+    ensures err { IfErr result (λ why. (why ≡ OpenRefusal.ExceededLimits) × (exceeds_limits own ≡ true)) }
 {
-    let offers = own.offers;
-    offers.exceed_limits(own.window)
+    if own.offers.exceed_limits(own.window) {
+        return Err(OpenRefusal::ExceededLimits);
+    }
+    Ok(())
 }
 
 // E10.
-fn is_not_syn(syn: Segment) -> bool
-    ensures { result ≡ is_not_syn syn }
+#[tactic(auto, unfolding(crate::specs::Opening::is_not_syn))]
+fn is_not_syn(syn: &Segment) -> bool
+    ensures { result ≡ is_not_syn syn.now }
 {
-    if syn.flags.syn {
-        return syn.flags.rst;
-    }
-    true
+    !syn.flags.syn || syn.flags.rst
 }
 
 // E11.
-fn is_wrong_ack(iss: Seq, syn: Segment) -> bool
-    ensures { result ≡ is_wrong_ack iss.0 syn }
+#[tactic(auto, unfolding(crate::specs::Opening::is_wrong_ack))]
+fn is_wrong_ack(iss: Seq, syn: &Segment) -> bool
+    ensures { result ≡ is_wrong_ack iss.0 syn.now }
 {
-    if syn.flags.ack {
-        return syn.ack.0 != iss.moved(1).0;
-    }
-    false
+    syn.flags.ack && syn.ack != iss.moved(1)
 }
 
-// The record of an opening with this in force.
-fn record_with(force: InForce, own: Setup, clock: u64, syn: Segment) -> Connection
-    ensures { result ≡ record_with force own clock syn }
+#[tactic(auto, using(crate::proofs::Keeping::record_sound), unfolding(crate::specs::Opening::record_from, crate::specs::Opening::record_with))]
+fn record_from(own: Setup, clock: u64, syn: &Segment) -> Connection
+    ensures opened { result ≡ record_from own clock syn.now }
+    ensures sound { Sound result }
 {
-    let options = syn.options;
-    let pair = options.timestamps;
-    let mss_option = options.mss;
-    let receive = Receive::new(syn.seq.moved(1), own.window, force.shifts.receive as u32);
-    let fields = ack_fields_of(syn);
-    let send = Send::new(own.iss, force.shifts.send as u32, fields, syn.flags.ack);
-    let tsval = tsval_of(pair);
-    let timestamping = Timestamping::new(force.timestamps, own.offset, clock, tsval);
-    let sack = force.sack;
-    let mss = mss(mss_option);
-    let timer = Timer::new();
+    let force = own.offers.in_force(peer_offers(syn));
+    let receive_shift = u32::from(force.shifts.receive);
+    let send_shift = u32::from(force.shifts.send);
     Connection {
-        receive,
-        send,
-        timestamping,
-        sack,
-        mss,
-        timer,
+        receive: Receive::new(syn.seq.moved(1), own.window, receive_shift),
+        send: Send::new(own.iss, send_shift, ack_fields_of(syn), syn.flags.ack),
+        timestamping: Timestamping::new(force.timestamps, own.offset, clock, tsval_of(syn)),
+        sack: force.sack,
+        mss: mss(syn.options.mss),
+        timer: Timer::new(),
     }
-}
-
-fn record_from(own: Setup, clock: u64, syn: Segment) -> Connection
-    ensures { result ≡ record_from own clock syn }
-{
-    let offers = own.offers;
-    let peer = peer_offers(syn);
-    let force = offers.in_force(peer);
-    record_with(force, own, clock, syn)
-}
-
-pub fn blank_record() -> Connection
-    ensures { result ≡ blank }
-{
-    let zero = Seq(0);
-    let receive = Receive::new(zero, 0, 0);
-    let send = Send {
-        una: zero,
-        nxt: zero,
-        window: 0,
-        largest: 0,
-        shift: 0,
-        wl1: zero,
-        wl2: zero,
-    };
-    let recent = Stamp(0);
-    let timestamping = Timestamping {
-        active: false,
-        recent,
-        since: 0,
-        offset: 0,
-    };
-    let timer = Timer::new();
-    Connection {
-        receive,
-        send,
-        timestamping,
-        sack: false,
-        mss: 0,
-        timer,
-    }
-}
-
-pub fn refused(why: OpenRefusal) -> OpenAnswer
-    ensures { shown_open result ≡ refused_opening (open_refusal_number why) (open_refusal_place why) }
-{
-    let outcome = OpenOutcome::Refused(why);
-    let connection = blank_record();
-    OpenAnswer {
-        outcome,
-        connection,
-    }
-}
-
-// Octets that do not read: E9, or their refusal.
-pub fn unreadable(own: Setup, why: Refusal) -> OpenAnswer
-    ensures { shown_open result ≡ cond (exceeds_limits own) (refused_opening 9 none) (refused_opening (number_of why) (fault_place why)) }
-{
-    if exceeds_limits(own) {
-        return refused(OpenRefusal::ExceededLimits);
-    }
-    refused(OpenRefusal::Segment(why))
 }
 
 // E10, E11, then the record.
-pub fn open_from(own: Setup, clock: u64, syn: Segment) -> OpenAnswer
-    ensures { shown_open result ≡ opening_from own clock syn }
+#[tactic(auto, unfolding(crate::specs::Opening::opening_from))]
+pub fn open_from(own: Setup, clock: u64, syn: &Segment) -> Result<Opened, OpenRefusal>
+    ensures answer { shown_open result ≡ opening_from own clock syn.now }
+    ensures sound { IfOk result (λ opened. Sound opened.connection) }
 {
     if is_not_syn(syn) {
-        return refused(OpenRefusal::NotSyn);
+        return Err(OpenRefusal::NotSyn);
     }
     if is_wrong_ack(own.iss, syn) {
-        return refused(OpenRefusal::WrongAck);
+        return Err(OpenRefusal::WrongAck);
     }
-    let outcome = OpenOutcome::Opened(syn.skipped);
-    let connection = record_from(own, clock, syn);
-    OpenAnswer {
-        outcome,
-        connection,
-    }
+    Ok(Opened {
+        connection: record_from(own, clock, syn),
+        skipped: syn.skipped,
+    })
 }

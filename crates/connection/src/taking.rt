@@ -3,109 +3,76 @@ ghost use Rattle.std.specs.Prelude.{◌≡◌};
 ghost use Rattle.rto.specs.Calls.{run};
 ghost use Rattle.connection.specs.Opening.{ack_fields_of, tsval_of};
 ghost use Rattle.connection.specs.Record.{Sound};
-ghost use Rattle.connection.specs.Taking.{expected_samples, fed_by, record_after, sample_of, two_segments};
+ghost use Rattle.connection.specs.Taking.{expected_samples, fed_by, record_after};
 
 use super::Connection;
 use rto::Timer;
-use segment::{Segment, Timestamps};
+use segment::Segment;
 use send::AckFields;
-use timestamps::{Timestamping, Tsval};
+use serial::{Serial, Stamp};
 
 // An MSS below this counts as this where samples are expected.
 const MIN_MSS: u16 = 64;
 
 // The fields of a segment that the send side takes.
-pub fn ack_fields_of(s: Segment) -> AckFields
-    ensures { result ≡ ack_fields_of s }
+pub fn ack_fields_of(s: &Segment) -> AckFields
+    ensures { result ≡ ack_fields_of s.now }
 {
-    let seq = s.seq;
-    let ack = s.ack;
-    let window = s.window;
-    AckFields { seq, ack, window }
+    AckFields {
+        seq: s.seq,
+        ack: s.ack,
+        window: s.window,
+    }
 }
 
 // The TSval that the timestamps take from a segment.
-pub fn tsval_of(timestamps: Timestamps) -> Tsval
-    ensures { result ≡ tsval_of timestamps }
+pub fn tsval_of(s: &Segment) -> Option<Stamp>
+    ensures { result ≡ tsval_of s.now.options.timestamps }
 {
-    match timestamps {
-        Timestamps::Absent => Tsval::Absent,
-        Timestamps::Pair(value, _) => Tsval::Value(value),
-    }
+    s.options.timestamps.map(|pair| pair.value)
 }
 
 // How many samples a round trip is expected to give (RFC 7323's ExpectedSamples): one for each two segments outstanding.
+#[tactic(auto, using(crate::proofs::Samples::ceil_rounds_up))]
 fn expected_samples(outstanding: u32, mss: u16) -> u32
     ensures { result ≡ expected_samples outstanding mss }
 {
-    let octets = outstanding as u64;
-    let unit = two_segments(mss);
-    if octets <= unit {
-        return 1;
-    }
-    if 15 * unit < octets {
-        return 16;
-    }
-    ((octets + (unit - 1)) / unit) as u32
+    let two_segments = 2 * u64::from(mss.max(MIN_MSS));
+    u64::from(outstanding).div_ceil(two_segments).clamp(1, 16) as u32
 }
 
-fn two_segments(mss: u16) -> u64
-    ensures { result ≡ two_segments mss }
-{
-    if mss < MIN_MSS {
-        2 * (MIN_MSS as u64)
-    } else {
-        2 * (mss as u64)
+impl Connection {
+    // The timer after a take: a new ACK with timestamps gives a sample.
+    #[tactic(auto, unfolding(crate::specs::Taking::fed_by, crate::specs::Taking::sample_of))]
+    fn timer_after(self, clock: u64, s: &Segment) -> Timer
+        ensures { result ≡ run self.timer (fed_by self clock s.now) }
+    {
+        if !self.timestamping.active || !self.send.is_new(s.ack) {
+            return self.timer;
+        }
+        let Some(pair) = s.options.timestamps else {
+            return self.timer;
+        };
+        let outstanding = self.send.nxt.offset(self.send.una);
+        let rtt = self.timestamping.sample(clock, pair.echoed);
+        let expected = expected_samples(outstanding, self.mss);
+        self.timer.feed(rtt, expected)
     }
-}
 
-// The timer after the sample that an echoed timestamp gives, where a round trip is expected to give so many.
-fn fed(timer: Timer, t: Timestamping, clock: u64, timestamps: Timestamps, expected: u32) -> Timer
-    ensures { result ≡ run timer (sample_of t clock timestamps expected) }
-{
-    let Timestamps::Pair(_, echoed) = timestamps else {
-        return timer;
-    };
-    timer.feed(t.sample(clock, echoed), expected)
-}
-
-// The timer after a take: a new ACK with timestamps gives a sample.
-fn timer_after(k: Connection, clock: u64, s: Segment) -> Timer
-    ensures { result ≡ run k.timer (fed_by k clock s) }
-{
-    let timer = k.timer;
-    let timestamping = k.timestamping;
-    if !timestamping.active {
-        return timer;
-    }
-    if k.send.is_new(s.ack) {
-        let options = s.options;
-        let timestamps = options.timestamps;
-        let outstanding = k.send.nxt.offset(k.send.una);
-        let expected = expected_samples(outstanding, k.mss);
-        return fed(timer, timestamping, clock, timestamps, expected);
-    }
-    timer
-}
-
-// The record after a segment is taken.
-pub fn record_after(k: Connection, clock: u64, s: Segment) -> Connection
-    requires { Sound k }
-    ensures { result ≡ record_after k clock s }
-{
-    let options = s.options;
-    let timestamps = options.timestamps;
-    let receive = k.receive.take(s.seq, s.len);
-    let fields = ack_fields_of(s);
-    let send = k.send.take(fields);
-    let tsval = tsval_of(timestamps);
-    let timestamping = k.timestamping.take(clock, k.receive.acked, s.seq, tsval);
-    let timer = timer_after(k, clock, s);
-    Connection {
-        receive,
-        send,
-        timestamping,
-        timer,
-        ..k
+    // The record after a segment is taken.
+    #[tactic(auto, using(crate::proofs::Keeping::record_after_sound), unfolding(crate::specs::Taking::record_after))]
+    pub(super) fn record_after(self, clock: u64, s: &Segment) -> Connection
+        requires { Sound self }
+        ensures taken { result ≡ record_after self clock s.now }
+        ensures sound { Sound result }
+    {
+        let acked = self.receive.acked;
+        Connection {
+            receive: self.receive.take(s.seq, s.len),
+            send: self.send.take(ack_fields_of(s)),
+            timestamping: self.timestamping.take(clock, acked, s.seq, tsval_of(s)),
+            timer: self.timer_after(clock, s),
+            ..self
+        }
     }
 }

@@ -7,13 +7,13 @@ ghost use Rattle.rto.specs.Timer.{milliseconds_of};
 ghost use Rattle.segment.specs.Reading.{reading};
 ghost use Rattle.serial.specs.Serial.{distance_of};
 
-use serial::Seq;
+use serial::{Seq, Serial};
 
 // The number of a segment's refusal, 0 where it can be read.
 pub fn noppalerk_refusal(segment: &[u8]) -> u32
     ensures { result ≡ (reading segment.now).number }
 {
-    segment::read(segment).number() as u32
+    u32::from(segment::read(segment).number())
 }
 
 // The distance from one serial number to another; both kinds are plain numbers here.

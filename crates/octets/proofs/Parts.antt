@@ -1,7 +1,7 @@
 -- The octets of a number: those that lie within and octets 0 for the others, and std's conversions of them, one law each over the width.
 -- Assumes nothing.
-use Rattle.std.proofs.Common.{◌≡◌, ℕ, zero, suc, ◌+◌, ◌*◌, ◌/◌, ◌%◌, ◌-◌, ◌^◌, ◌<◌, ◌≤◌, List, [], ◌∷◌, ◌++◌, refl, sym, ap, ◌∙◌, arith, get_or, length, take, drop}
-use Rattle.std.proofs.Math.ListN.{replicate}
+use Rattle.std.proofs.Common.{◌≡◌, ℕ, zero, suc, ◌+◌, ◌*◌, ◌/◌, ◌%◌, ◌-◌, ◌^◌, ◌<◌, ◌≤◌, List, [], ◌∷◌, ◌++◌, refl, sym, ap, ◌∙◌, arith, get_or, length, take, drop, length-drop}
+use Rattle.std.proofs.Math.ListN.{drop_of_length-le, replicate}
 use native.Mathlib.Numerals.{unary_clauses}
 use Rattle.std.proofs.Math.Nat.{mod-eq_of_lt, mod-lt}
 use Rattle.std.proofs.Math.Arith.{mod-mul}
@@ -37,12 +37,17 @@ cut w [] short = octets_of_none w 0
 cut zero (x ∷ l) short = absurd (omega arith)
 cut (suc w) (x ∷ l) short = ap (λ (k : List ℕ). x ∷ k) (octets_after w 0 x l ∙ cut w l (omega arith))
 
-module _ (w at : ℕ) (l rest : List ℕ) (is : rest ≡ drop at l) where
-  pub octets_whole : w ≤ length rest → take w rest ≡ octets_at w l at
-  octets_whole room = sym (octets_from w at l ∙ rw (← is) (whole w rest room))
+module _ (w at : ℕ) (l : List ℕ) where
+  pub octets_whole : at + w ≤ length l → take w (drop at l) ≡ octets_at w l at
+  octets_whole room = sym (octets_from w at l ∙ whole w (drop at l) (omega (arith, length-drop at l)))
 
-  pub octets_cut : length rest < w → rest ++ drop (length rest) (replicate w 0) ≡ octets_at w l at
-  octets_cut short = sym (octets_from w at l ∙ rw (← is) (cut w rest short))
+  pub octets_cut : at < length l → length l < at + w → drop at l ++ drop (length l - at) (replicate w 0) ≡ octets_at w l at
+  octets_cut some short =
+      ap (λ (n : ℕ). drop at l ++ drop n (replicate w 0)) (sym (length-drop at l))
+      ∙ sym (octets_from w at l ∙ cut w (drop at l) (omega (arith, length-drop at l)))
+
+  pub octets_past : length l ≤ at → replicate w 0 ≡ octets_at w l at
+  octets_past past = sym (octets_from w at l ∙ ap (λ (k : List ℕ). octets_at w k 0) (drop_of_length-le l past) ∙ octets_of_none w 0)
 
 first_apart : (f : ℕ → ℕ) (k : ℕ) → sum_through f (suc k) ≡ f 0 + sum_through (λ i. f (suc i)) k
 first_apart f zero = refl

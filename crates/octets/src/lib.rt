@@ -2,7 +2,7 @@
 
 #![tactic(auto)]
 
-ghost use Rattle.std.specs.Prelude.{◌≡◌, ℕ, drop, get_or, set};
+ghost use Rattle.std.specs.Prelude.{◌≡◌, ℕ, ◌+◌, ◌<◌, get_or, length, set};
 ghost use Rattle.std.proofs.lemmas.List.Edits.{sets};
 ghost use Rattle.octets.specs.Octets.{big_endian, number_at, octets_at};
 
@@ -77,24 +77,31 @@ impl Number for u64 {
     }
 }
 
-// Where all octets of a number lie within, these two move them by one copy, so that the compiler makes one load or store.
+// That all octets of a number lie within is asked once and before any of them, so that the compiler makes one load or store.
 
 fn load<const N: usize>(octets: &[u8], at: usize) -> [u8; N]
     ensures { result ≡ octets_at N octets.now at }
 {
-    let rest = from(octets, at);
-    if let Some(whole) = rest.first_chunk() {
-        return *whole;
+    if octets.len() < N || octets.len() - N < at {
+        return cut(octets, at);
     }
     let mut number = [0; N];
-    number[..rest.len()].copy_from_slice(rest);
+    number.copy_from_slice(&octets[at..at + N]);
     number
 }
 
-fn from(octets: &[u8], at: usize) -> &[u8]
-    ensures { result.now ≡ drop at octets.now }
+// The octets up to the end, and octets 0 after them. It stays a call, so that the usual load is small where the compiler puts it.
+#[cold]
+#[inline(never)]
+fn cut<const N: usize>(octets: &[u8], at: usize) -> [u8; N]
+    requires { length octets.now < at + N }
+    ensures { result ≡ octets_at N octets.now at }
 {
-    octets.get(at..).unwrap_or(&[])
+    let mut number = [0; N];
+    if at < octets.len() {
+        number[..octets.len() - at].copy_from_slice(&octets[at..]);
+    }
+    number
 }
 
 fn store<const N: usize>(octets: &mut [u8], at: usize, number: [u8; N])

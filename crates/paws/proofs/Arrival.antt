@@ -1,4 +1,5 @@
 -- An arrival that the premises allow has each octet in place, and leaves the invariant. Assumes nothing.
+use Rattle.std.specs.Prelude.{Option}
 use mathlib.Core.Bool.{Bool, true, false, cond, ◌&&◌}
 use mathlib.Core.List.{List}
 use mathlib.Core.Logic.{inl}
@@ -8,6 +9,7 @@ use Prim.Native.Nat.{ℕ, ◌+◌, ◌%◌, ◌^◌, ◌≤◌, ◌<◌}
 use native.Mathlib.Decide.{dec_lt}
 use native.Mathlib.Omega.{arith}
 use Rattle.laws.proofs.Choices.{either}
+use Rattle.serial.specs.declared.Stamp.{Stamp}
 use Rattle.serial.specs.Serial.{moved_by, offset_of}
 use Rattle.serial.specs.declared.Seq.{Seq}
 use Rattle.serial.proofs.Offset.{moved_offset}
@@ -15,7 +17,6 @@ use Rattle.serial.proofs.TrueNumbers.{at_or_before_true, moved_true}
 use Rattle.timestamps.specs.Timestamps as timestamps
 use Rattle.timestamps.specs.Timestamps.{is_recorded, stamp_of, with_recent}
 use Rattle.timestamps.specs.declared.Timestamping.{Timestamping}
-use Rattle.timestamps.specs.declared.Tsval.{Tsval}
 use Rattle.timestamps.proofs.Laws.{recorded_given}
 use Rattle.receive.specs.Window.{new_part}
 use Rattle.receive.specs.declared.Receive.{Receive}
@@ -53,7 +54,7 @@ module _
     abbrev s : Segment
     s = b.fields
 
-    abbrev value : Tsval
+    abbrev value : Option Stamp
     value = tsval_of s.options.timestamps
 
     -- TSval is recorded if it is taken

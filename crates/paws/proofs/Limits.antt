@@ -1,6 +1,7 @@
 -- The premises allow a list of calls at each of their limits, and the claim holds of it: the last number below the right edge of our SYN, and
 -- below that of an acknowledgment; a start 2^30 - 1 below the highest number; stamps that are equal, and 2^31 - 1 ticks ahead and behind; a
 -- clock of exactly 24 days; and what does not read, or has no timestamps, among the calls. Assumes nothing.
+use Rattle.std.specs.Prelude.{Some}
 use mathlib.Core.Bool.{Bool, true, false}
 use mathlib.Core.List.Memᴰ
 use mathlib.Core.List.{List, [], ◌∷◌}
@@ -17,7 +18,6 @@ use Rattle.laws.proofs.Lists.{each_in, each_map, none_passes}
 use Rattle.serial.specs.Serial.{distance_of, offset_of}
 use Rattle.field_station.specs.Demands.{first_lack}
 use Rattle.offers.specs.Offers.{exceed_limits, in_force, shifts_in_force}
-use Rattle.offers.specs.declared.Scale.{Scale}
 use Rattle.timestamps.specs.Timestamps as timestamps
 use Rattle.timestamps.specs.Timestamps.{outdated}
 use Rattle.receive.specs.Ranges.{held_of, is_out_of_order, joined, left_of, meets, no_room, range_of, ranges_after, ranges_of, right_of}
@@ -71,16 +71,16 @@ unfolding distance_of offset_of exceed_limits in_force shifts_in_force held_of r
     opening_read record_from record_with first_lack under_profile profile_opening_read Option-elim
 limits_opening = record {
   way = profile;
-  own = own (Scale.Shift 3);
+  own = own (Some 3);
   clock = 100;
-  segment = read (fields true (Scale.Shift 2) 4999 50 0);
+  segment = read (fields true (Some 2) 4999 50 0);
   opens = refl;
   active = refl;
   syn =
       record {
         sent = syn;
         in_history = Memᴰ.head refl;
-        fields = fields true (Scale.Shift 2) 4999 50 0;
+        fields = fields true (Some 2) 4999 50 0;
         reads = refl;
         seq = refl;
         len = refl;

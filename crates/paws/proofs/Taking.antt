@@ -1,5 +1,6 @@
 -- A segment that is taken: each octet of its new part is in place, and RCV.NXT and what is held stay below the highest edge written. Assumes
 -- nothing.
+use Rattle.std.specs.Prelude.{Some}
 use mathlib.Core.Bool.{Bool, true, false, not, ◌&&◌, false≢true}
 use mathlib.Core.List.{List}
 use mathlib.Core.Logic.{◌⊎◌, inl, inr}
@@ -15,7 +16,6 @@ use Rattle.serial.specs.declared.Stamp.{Stamp}
 use Rattle.serial.proofs.Offset.{moved_offset, offset_around, offset_between, offset_moved, offset_self}
 use Rattle.serial.proofs.TrueNumbers.{before_true, moved_true, same_true}
 use Rattle.timestamps.specs.Timestamps.{is_old}
-use Rattle.timestamps.specs.declared.Tsval.{Tsval}
 use Rattle.timestamps.proofs.Laws.{by_distance, old_given}
 use Rattle.receive.specs.Coverage.{is_held, is_received}
 use Rattle.receive.specs.Ranges.{lies_in}
@@ -110,13 +110,13 @@ module _
     unfolding rows
     not_before = pick (is_before (p.stamp % 2 ^ 32) k.timestamping.recent.0) refl
       where
-        stamped : is_old k.timestamping clock (tsval_of s.options.timestamps) s.flags.rst ≡ is_old k.timestamping clock (Tsval.Value value) false
+        stamped : is_old k.timestamping clock (tsval_of s.options.timestamps) s.flags.rst ≡ is_old k.timestamping clock (Some value) false
         stamped = λ j. is_old k.timestamping clock (tsval_of (b.stamp j)) (no_rst j)
 
         pick : (t : Bool) → is_before (p.stamp % 2 ^ 32) k.timestamping.recent.0 ≡ t → t ≡ false
         pick false e = refl
         pick true e =
-            sym (old_given k.timestamping clock (Tsval.Value value) inv.active (by_distance k.timestamping.recent.0 value ∙ e)
+            sym (old_given k.timestamping clock (Some value) inv.active (by_distance k.timestamping.recent.0 value ∙ e)
             allowed.not_outdated)
             ∙ (sym stamped ∙ clear 22)
 

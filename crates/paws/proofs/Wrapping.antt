@@ -1,5 +1,6 @@
 -- The premises can be met, and the claim says something: in the worked case RCV.NXT wraps to where it began, and the first segment, which
 -- arrives once more, is dropped by its stamp alone. Assumes nothing.
+use Rattle.std.specs.Prelude.{None}
 use mathlib.Core.Bool.{true}
 use mathlib.Core.List.Memᴰ
 use mathlib.Core.List.{List, [], ◌∷◌, ◌++◌}
@@ -11,7 +12,6 @@ use native.Mathlib.Omega.{arith}
 use Rattle.serial.specs.Serial.{distance_of, offset_of}
 use Rattle.octets.specs.Octets.{big_endian, number_at}
 use Rattle.offers.specs.Offers.{exceed_limits, in_force, shifts_in_force}
-use Rattle.offers.specs.declared.Scale.{Scale}
 use Rattle.timestamps.specs.Timestamps as timestamps
 use Rattle.timestamps.specs.Timestamps.{outdated}
 use Rattle.receive.specs.Ranges.{held_of}
@@ -44,10 +44,10 @@ use Rattle.paws.proofs.WrappingRounds.{State, after_acknowledgment, after_arriva
 abbrev syn_octets : List ℕ
 syn_octets = octets true 4999 50 0
 
-opens : ((opened_by (own Scale.Absent) 100 (unread syn_octets)).number ≡ 0) × ((opened_by (own Scale.Absent) 100 (unread syn_octets)).connection ≡ cases.base)
+opens : ((opened_by (own None) 100 (unread syn_octets)).number ≡ 0) × ((opened_by (own None) 100 (unread syn_octets)).connection ≡ cases.base)
 unfolding distance_of offset_of big_endian number_at Option-elim
     is_broken padding padding_rule options.fault_at options.fault_in options.is_repeated options.is_wrong_length options.lengths_of
-    options.one_to_four options.option_in options.options_of options.stands_in options_read reading segment_of exceed_limits in_force shifts_in_force
+    options.option_in options.options_of options.stands_in options_read reading segment_of exceed_limits in_force shifts_in_force
     held_of receive.opened send.opened timestamps.opened is_not_syn is_wrong_ack opening opening_from record_from record_with
 opens = (refl, refl)
 
@@ -55,7 +55,7 @@ pub wrapping_opening : Opening history
 unfolding history
 wrapping_opening = record {
   way = plain;
-  own = own Scale.Absent;
+  own = own None;
   clock = 100;
   segment = unread syn_octets;
   opens = opens.0;
@@ -64,7 +64,7 @@ wrapping_opening = record {
       record {
         sent = syn;
         in_history = Memᴰ.head refl;
-        fields = fields true Scale.Absent 4999 50 0;
+        fields = fields true None 4999 50 0;
         reads = syn_read;
         seq = refl;
         len = refl;

@@ -1,4 +1,5 @@
 -- The octets of the worked case's segments read as their fields. Assumes nothing.
+use Rattle.std.specs.Prelude.{None, Some, []}
 use mathlib.Core.Bool.{true, false}
 use mathlib.Core.List.{[]}
 use mathlib.Core.Option.{none, some, Option-elim}
@@ -8,21 +9,17 @@ use native.Mathlib.Omega.{arith}
 use lib.ListN.{length, length-replicate}
 use Rattle.octets.specs.Octets.{big_endian, number_at}
 use Rattle.octets.proofs.ReadBack.{number_at_big_endian}
-use Rattle.offers.specs.declared.Scale.{Scale}
 use Rattle.segment.specs.Grammar.{is_broken, padding, padding_rule}
 use Rattle.segment.specs.Options as options
 use Rattle.segment.specs.Reading.{Answer, data_offset, options_read, reading, segment_of, steps_of}
-use Rattle.segment.specs.declared.Mss.{Mss}
-use Rattle.segment.specs.declared.SackBlocks.{SackBlocks}
 use Rattle.segment.specs.declared.Segment.{Segment}
-use Rattle.segment.specs.declared.Timestamps.{Timestamps}
 use Rattle.segment.proofs.Readable.{Passed, read_if}
 use Rattle.paws.specs.History.{Sent}
 use Rattle.paws.specs.Segments.{fields, as_fields, octets, as_octets}
 
-pub syn_read : (reading (octets true 4999 50 0)).fields ≡ some (fields true Scale.Absent 4999 50 0)
+pub syn_read : (reading (octets true 4999 50 0)).fields ≡ some (fields true None 4999 50 0)
 unfolding big_endian number_at is_broken padding padding_rule options.fault_at options.fault_in options.is_repeated
-    options.is_wrong_length options.lengths_of options.one_to_four options.option_in options.options_of options.stands_in options_read reading segment_of Option-elim
+    options.is_wrong_length options.lengths_of options.option_in options.options_of options.stands_in options_read reading segment_of Option-elim
 syn_read = refl
 
 module _ (p : Sent) (small : p.len ≤ 65503) where
@@ -44,7 +41,7 @@ module _ (p : Sent) (small : p.len ≤ 65503) where
 
   no_fault : options.fault_in [] (steps_of (as_octets p)) ≡ none
   unfolding as_octets big_endian number_at is_broken padding padding_rule options.fault_at options.fault_in options.is_repeated options.is_wrong_length
-      options.lengths_of options.one_to_four options.option_in options.options_of options.stands_in
+      options.lengths_of options.option_in options.options_of options.stands_in
   no_fault = refl
 
   fields_are : segment_of (as_octets p) (4 * data_offset (as_octets p)) (options.skipped_in (steps_of (as_octets p))) (options.options_of (steps_of (as_octets p)))
@@ -61,11 +58,11 @@ module _ (p : Sent) (small : p.len ≤ 65503) where
         window = 9;
         urgent = 0;
         options = record {
-          mss = Mss.Absent;
-          scale = Scale.Absent;
+          mss = None;
+          scale = None;
           permitted = false;
-          blocks = SackBlocks.Absent;
-          timestamps = Timestamps.Pair (record { 0 = number_at_big_endian 3 (p.stamp % 2 ^ 32) [] i }) (record { 0 = 0 });
+          blocks = [];
+          timestamps = Some (record { value = record { 0 = number_at_big_endian 3 (p.stamp % 2 ^ 32) [] i }; echoed = record { 0 = 0 } });
         };
         skipped = 0;
         payload = record { start = 32; length = payload i };

@@ -1,10 +1,9 @@
 -- What the peer sent, in true, unbounded numbers, and how a segment of it comes in (document 02, P7).
 use mathlib.Core.List.{List, Memᴰ}
 use Rattle.std.proofs.Math.Option.{none, some}
-use Rattle.std.specs.Prelude.{◌≡◌, ℕ, ◌+◌, ◌%◌, ◌^◌, ◌≤◌, ◌<◌}
+use Rattle.std.specs.Prelude.{◌≡◌, ℕ, ◌+◌, ◌%◌, ◌^◌, ◌≤◌, ◌<◌, None, Some}
 use Rattle.serial.specs.declared.Stamp.{Stamp}
 use Rattle.segment.specs.declared.Segment.{Segment}
-use Rattle.segment.specs.declared.Timestamps.{Timestamps}
 use Rattle.connection.specs.Calls.{Incoming, fields_of}
 
 -- a segment as the peer sent it: the true number of its first octet, LEN, and its true stamp
@@ -30,9 +29,9 @@ pub record Brings (history : List Sent) (i : Incoming) : Type 0 where
   pub seq : fields.seq.0 ≡ sent.start % 2 ^ 32
   pub len : fields.len ≡ sent.len
   pub echoed : Stamp
-  pub stamp : fields.options.timestamps ≡ Timestamps.Pair (record { 0 = sent.stamp % 2 ^ 32 }) echoed
+  pub stamp : fields.options.timestamps ≡ Some (record { value = record { 0 = sent.stamp % 2 ^ 32 }; echoed = echoed })
 
 -- what comes in does not read, or has no timestamps
 pub data Unstamped (i : Incoming) : Type 0 where
   unreadable : fields_of i ≡ none → Unstamped i
-  without : (s : Segment) → fields_of i ≡ some s → s.options.timestamps ≡ Timestamps.Absent → Unstamped i
+  without : (s : Segment) → fields_of i ≡ some s → s.options.timestamps ≡ None → Unstamped i

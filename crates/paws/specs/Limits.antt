@@ -1,11 +1,7 @@
 -- A worked case at each limit of the premises. The SYN's true number is 2^32 + 4999, so that its SEQ is 4999; the record is opened under the
 -- field-station profile, from fields read before, at clock 100, with a receive shift of 3.
-use Rattle.std.specs.Prelude.{true, false, List, [], ◌∷◌, ℕ, ◌+◌, ◌-◌, ◌^◌}
-use Rattle.offers.specs.declared.Scale.{Scale}
-use Rattle.segment.specs.declared.Mss.{Mss}
-use Rattle.segment.specs.declared.SackBlocks.{SackBlocks}
+use Rattle.std.specs.Prelude.{true, false, List, [], ◌∷◌, ℕ, ◌+◌, ◌-◌, ◌^◌, None}
 use Rattle.segment.specs.declared.Segment.{Segment}
-use Rattle.segment.specs.declared.Timestamps.{Timestamps}
 use Rattle.paws.specs.History.{Sent}
 
 -- one number from this one on, with this stamp
@@ -53,11 +49,11 @@ reset = record {
   window = 0;
   urgent = 0;
   options = record {
-    mss = Mss.Absent;
-    scale = Scale.Absent;
+    mss = None;
+    scale = None;
     permitted = false;
-    blocks = SackBlocks.Absent;
-    timestamps = Timestamps.Absent;
+    blocks = [];
+    timestamps = None;
   };
   skipped = 0;
   payload = record { start = 20; length = 0 };

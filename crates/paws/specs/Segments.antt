@@ -1,16 +1,12 @@
 -- The segments of the worked cases: their octets, and the fields that are read from them.
-use Rattle.std.specs.Prelude.{Bool, true, false, cond, not, List, ℕ, ◌+◌, ◌%◌, ◌^◌}
-use Rattle.offers.specs.declared.Scale.{Scale}
-use Rattle.segment.specs.declared.Mss.{Mss}
-use Rattle.segment.specs.declared.SackBlocks.{SackBlocks}
+use Rattle.std.specs.Prelude.{Bool, true, false, cond, not, List, ℕ, ◌+◌, ◌%◌, ◌^◌, None, Option, Some, []}
 use Rattle.segment.specs.declared.Segment.{Segment}
-use Rattle.segment.specs.declared.Timestamps.{Timestamps}
 use Rattle.connection.specs.Cases as cases
 use Rattle.connection.specs.declared.Setup.{Setup}
 use Rattle.paws.specs.History.{Sent}
 
 -- our side of the opening, with this offer of a shift: ISS 1000, timestamps, a first window of 65,535
-abbrev pub own : Scale → Setup
+abbrev pub own : Option ℕ → Setup
 own scale = record {
   iss = record { 0 = 1000 };
   offers = record { scale = scale; timestamps = true; sack = false };
@@ -23,7 +19,7 @@ abbrev pub octets : Bool → ℕ → ℕ → ℕ → List ℕ
 octets syn seq value payload = cases.octets seq 1000 (cond syn 2 16) 9 (cases.stamps value 0) payload
 
 -- the same with an offer of a shift
-abbrev pub fields : Bool → Scale → ℕ → ℕ → ℕ → Segment
+abbrev pub fields : Bool → Option ℕ → ℕ → ℕ → ℕ → Segment
 fields syn scale seq value payload = record {
   source = 40001;
   destination = 443;
@@ -33,11 +29,11 @@ fields syn scale seq value payload = record {
   window = 9;
   urgent = 0;
   options = record {
-    mss = Mss.Absent;
+    mss = None;
     scale = scale;
     permitted = false;
-    blocks = SackBlocks.Absent;
-    timestamps = Timestamps.Pair (record { 0 = value }) (record { 0 = 0 });
+    blocks = [];
+    timestamps = Some (record { value = record { 0 = value }; echoed = record { 0 = 0 } });
   };
   skipped = 0;
   payload = record { start = 32; length = payload };
@@ -49,4 +45,4 @@ unfoldable pub as_octets : Sent → List ℕ
 as_octets p = octets false (p.start % 2 ^ 32) (p.stamp % 2 ^ 32) p.len
 
 unfoldable pub as_fields : Sent → Segment
-as_fields p = fields false Scale.Absent (p.start % 2 ^ 32) (p.stamp % 2 ^ 32) p.len
+as_fields p = fields false None (p.start % 2 ^ 32) (p.stamp % 2 ^ 32) p.len

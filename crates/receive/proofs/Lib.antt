@@ -1,6 +1,6 @@
-mod Absorbing
 pub mod Coverage
 pub mod Edge
+mod Joining
 pub mod Opening
 pub mod Order
 pub mod Parts

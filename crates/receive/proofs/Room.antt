@@ -1,7 +1,7 @@
 -- Verdict 30 exactly; a part joined with the ranges that it meets, and put first where a slot is left, gives the ranges after it. Assumes
 -- nothing.
-use mathlib.Core.Bool.{Bool, true, false, not, ◌&&◌, and-false, true≢false}
-use mathlib.Core.List.{List, ◌∷◌}
+use mathlib.Core.Bool.{Bool, true, false, not, ◌&&◌, ◌||◌, and-false, true≢false}
+use mathlib.Core.List.{List, [], ◌∷◌}
 use mathlib.Core.Logic.{◌↔◌, ◌⊎◌, inl, inr, ⊎_map}
 use mathlib.Core.Path.{◌≡◌, refl, ap}
 use Prim.Native.Nat.{ℕ, ◌≤◌, ◌<◌}
@@ -9,6 +9,7 @@ use native.Mathlib.Omega.{arith}
 use lib.Dec.{eqb, leb, ltb}
 use lib.ListN.{length}
 use borrow.Author.Tests.{eq-eqb, eqb-false, eqb-true, le-ltb, leb-false, lt-leb, lt-ltb, ltb-true, not-true}
+use Rattle.std.specs.List.{list_any}
 use Rattle.serial.specs.declared.Range.{Range}
 use Rattle.receive.specs.declared.Part.{Part}
 use Rattle.receive.specs.declared.Receive.{Receive}
@@ -20,6 +21,11 @@ use Rattle.receive.specs.Internal.{with_first}
 use Rattle.laws.proofs.Choices.{both_true, one_false}
 use Rattle.laws.proofs.Lists.{each_map, fewer_others, filter_others, length_filter, none_passes}
 use Rattle.receive.proofs.Slots.{first_full, first_room}
+
+-- std's word for the test
+pub any_listed : (p : Range → Bool) (l : List Range) → list_any p l ≡ any p l
+any_listed p [] = refl
+any_listed p (r ∷ l) = ap (λ b. p r || b) (any_listed p l)
 
 none_any : {A : Type 0} (p : A → Bool) {l : List A} → Each (λ x. p x ≡ false) l → any p l ≡ false
 none_any p none = refl

@@ -64,7 +64,7 @@ module _ (r : Receive) (s : Sound r) where
             (room nxt p l b n s.ranges.few)
         pick false b n e = s.ranges
 
-    advanced_keeps : p.from ≡ 0 → Sound (advanced r p)
+    pub advanced_keeps : p.from ≡ 0 → Sound (advanced r p)
     unfolding advanced
     advanced_keeps zero =
         let after = advanced_sound r.nxt.0 r.window (advanced r p).window p (ranges_of r.held) (omega arith) zero s.ranges in
@@ -76,7 +76,7 @@ module _ (r : Receive) (s : Sound r) where
           ranges = rw ranges_held after;
         }
 
-    holding_keeps : Sound (holding r p)
+    pub holding_keeps : Sound (holding r p)
     unfolding holding
     holding_keeps = record {
       nxt_below = s.nxt_below;

@@ -1,11 +1,10 @@
 -- The window test and the new part of a segment (document 01, "Verdicts, in this order" and "What taking does"), and opening the window
 -- (E13). A segment is given by SEQ and LEN.
-use Rattle.std.specs.Prelude.{Bool, false, cond, not, ◌&&◌, ◌||◌, [], ℕ, ◌+◌, ◌-◌, ◌*◌, ◌^◌, min, eqb, leb, ltb}
+use Rattle.std.specs.Prelude.{Bool, false, cond, not, ◌&&◌, ◌||◌, [], ℕ, ◌+◌, ◌-◌, ◌*◌, ◌^◌, min, eqb, leb, ltb, Result, Ok, Err}
 use Rattle.serial.specs.Serial.{moved_by, offset_of}
 use Rattle.receive.specs.declared.Part.{Part}
 use Rattle.receive.specs.declared.Receive.{Receive}
-use Rattle.receive.specs.declared.WindowAnswer.{WindowAnswer}
-use Rattle.receive.specs.declared.WindowOutcome.{WindowOutcome}
+use Rattle.receive.specs.declared.WindowRefused.{WindowRefused}
 use Rattle.receive.specs.Ranges.{held_of, lies_in, no_room, ranges_of}
 
 -- RCV.NXT = Last.ACK.sent, and no ranges are held. A first window above 65,535 counts as 65,535, and a shift above 14 as 14: E9 lets
@@ -79,9 +78,9 @@ unfoldable pub window_opened : Receive → ℕ → Answer
 window_opened r window =
     cond (is_window_refused r window) (record { number = 13; receive = r }) (record { number = 0; receive = with_window r window })
 
-abbrev pub number_of : WindowOutcome → ℕ
-number_of WindowOutcome.Opened = 0
-number_of WindowOutcome.Refused = 13
+abbrev pub number_of : WindowRefused → ℕ
+number_of why = 13
 
-abbrev pub shown : WindowAnswer → Answer
-shown a = record { number = number_of a.outcome; receive = a.receive }
+abbrev pub shown : Receive → Result Receive WindowRefused → Answer
+shown r (Ok t) = record { number = 0; receive = t }
+shown r (Err why) = record { number = number_of why; receive = r }

@@ -1,144 +1,134 @@
-// The held ranges: those that a part meets, and the others.
-ghost use Rattle.std.specs.Prelude.{◌≡◌, List, [], ◌∷◌, ◌≤◌, ◌<◌, max, min, length};
-ghost use Rattle.laws.specs.Lists.{any};
-ghost use Rattle.receive.specs.Ranges.{held_of, is_out_of_order, meets, range_of, ranges_of};
+// The ranges held: those that a part meets, and the others.
+ghost use Rattle.std.specs.Prelude.{◌≡◌, ◌<◌, [], ◌∷◌, ◌++◌};
+ghost use Rattle.std.specs.List.{list_any};
+ghost use Rattle.receive.specs.Ranges.{held_of, is_out_of_order, joined, lies_in, meets, range_of, ranges_of, unmet};
 ghost use Rattle.receive.specs.Sound.{Canonical};
-ghost use Rattle.receive.specs.Internal.{absorbed_of, with_first};
+ghost use Rattle.receive.specs.Internal.{with_first};
+ghost use Rattle.receive.specs.Window.{empty_part};
 
-use super::{Held, Part};
-use serial::{Range, Seq};
+use super::{Held, Part, SLOTS};
+use serial::{Range, Seq, Serial};
 
-// A part joined with the ranges that it meets, and the other ranges.
-#[derive(Clone, Copy)]
-pub struct Absorbed {
-    pub part: Part,
-    pub rest: Held,
-}
-
-// No range at all.
-pub fn none() -> Held
-    ensures { result ≡ held_of [] }
-{
-    let unused = Range {
-        left: Seq(0),
-        right: Seq(0),
-    };
-    Held {
-        ranges: [unused; 8],
-        count: 0,
+impl Part {
+    pub(crate) fn empty() -> Part
+        ensures { result ≡ empty_part }
+    {
+        Part { from: 0, to: 0 }
     }
-}
 
-// Whether the part is not empty and does not start at 0.
-pub fn is_out_of_order(p: Part) -> bool
-    ensures { result ≡ is_out_of_order p }
-{
-    0 < p.from && p.from < p.to
-}
+    pub(crate) fn contains(self, offset: u32) -> bool
+        ensures { result ≡ lies_in self offset }
+    {
+        self.from <= offset && offset < self.to
+    }
 
-// A part as a range of sequence numbers.
-pub fn range_of(nxt: Seq, p: Part) -> Range
-    ensures { result ≡ range_of nxt.0 p }
-{
-    let left = nxt.moved(p.from);
-    let right = nxt.moved(p.to);
-    Range { left, right }
-}
+    // Whether the part is not empty and does not start at 0.
+    #[tactic(auto, unfolding(crate::specs::Ranges::is_out_of_order))]
+    pub(crate) fn is_out_of_order(self) -> bool
+        ensures { result ≡ is_out_of_order self }
+    {
+        0 < self.from && self.from < self.to
+    }
 
-// Whether the range overlaps or touches the part.
-fn is_met(range: Range, nxt: Seq, p: Part) -> bool
-    ensures { result ≡ meets nxt.0 p range }
-{
-    let left = range.left.offset(nxt);
-    let right = range.right.offset(nxt);
-    left <= p.to && p.from <= right
-}
-
-// Whether the part overlaps or touches a range.
-pub fn meets_any(held: Held, nxt: Seq, p: Part) -> bool
-    requires { Canonical held }
-    ensures { result ≡ any (meets nxt.0 p) (ranges_of held) }
-{
-    let n = held.count;
-    let mut i = 0;
-    while i < n {
-        let range = held.ranges[i];
-        if is_met(range, nxt, p) {
-            return true;
+    // The part as a range of sequence numbers.
+    #[tactic(auto, unfolding(crate::specs::Ranges::range_of))]
+    pub(crate) fn range(self, nxt: Seq) -> Range
+        ensures { result ≡ range_of nxt.0 self }
+    {
+        Range {
+            left: nxt.moved(self.from),
+            right: nxt.moved(self.to),
         }
-        i += 1;
     }
-    false
+
+    // Whether the range overlaps or touches the part.
+    #[tactic(auto, unfolding(crate::specs::Ranges::meets, crate::specs::Ranges::left_of, crate::specs::Ranges::right_of))]
+    fn meets(self, nxt: Seq, range: Range) -> bool
+        ensures { result ≡ meets nxt.0 self range }
+    {
+        range.left.offset(nxt) <= self.to && self.from <= range.right.offset(nxt)
+    }
 }
 
-// The ranges with one more put first; where no slot is left, as they were.
-pub fn put_first(held: Held, range: Range) -> Held
-    ensures { (l : List Range) → length l ≤ 8 → held ≡ held_of l → result ≡ held_of (with_first range l) }
-{
-    let old = held.ranges;
-    let r0 = old[0];
-    let r1 = old[1];
-    let r2 = old[2];
-    let r3 = old[3];
-    let r4 = old[4];
-    let r5 = old[5];
-    let r6 = old[6];
-    let n = held.count;
-    if n < 8 {
+impl Held {
+    // No range at all.
+    #[tactic(auto, unfolding(crate::specs::Ranges::held_of))]
+    pub(crate) fn none() -> Held
+        ensures { result ≡ held_of [] }
+    {
+        let unused = Range {
+            left: Seq(0),
+            right: Seq(0),
+        };
         Held {
-            ranges: [range, r0, r1, r2, r3, r4, r5, r6],
-            count: n + 1,
+            ranges: [unused; SLOTS],
+            count: 0,
         }
-    } else {
-        held
     }
-}
 
-// What is absorbed with one range more, which stands before the others.
-fn absorb_one(later: Absorbed, range: Range, nxt: Seq, p: Part) -> Absorbed
-    ensures { (l : List Range) → length l < 8 → later ≡ absorbed_of nxt.0 p l → result ≡ absorbed_of nxt.0 p (range ∷ l) }
-{
-    if is_met(range, nxt, p) {
-        let from = least(range.left.offset(nxt), later.part.from);
-        let to = greatest(range.right.offset(nxt), later.part.to);
-        let rest = later.rest;
-        Absorbed {
-            part: Part { from, to },
-            rest,
+    // The ranges that are held, all eight where the count is above.
+    #[tactic(auto, unfolding(crate::specs::Ranges::ranges_of))]
+    pub fn as_slice(&self) -> &[Range]
+        ensures { result.now ≡ ranges_of self.now }
+    {
+        &self.ranges[..self.count.min(SLOTS)]
+    }
+
+    // Whether the part overlaps or touches a range.
+    pub(crate) fn meets_any(&self, nxt: Seq, part: Part) -> bool
+        ensures { result ≡ list_any (meets nxt.0 part) (ranges_of self.now) }
+    {
+        self.as_slice().iter().any(|range| part.meets(nxt, *range))
+    }
+
+    // The ranges with one more put first; where no slot is left, as they were.
+    #[tactic(auto, using(crate::proofs::Slots::put_full, crate::proofs::Slots::put_room))]
+    pub(crate) fn with_first(mut self, range: Range) -> Held
+        requires { Canonical self }
+        ensures { result ≡ held_of (with_first range (ranges_of self)) }
+    {
+        if self.count < SLOTS {
+            self.ranges.rotate_right(1);
+            self.ranges[0] = range;
+            self.count += 1;
         }
-    } else {
-        let part = later.part;
-        let rest = put_first(later.rest, range);
-        Absorbed { part, rest }
+        self
     }
-}
 
-// The part joined with the ranges that it meets, and the other ranges in their order.
-pub fn absorb(held: Held, nxt: Seq, p: Part) -> Absorbed
-    requires { Canonical held }
-    ensures { result ≡ absorbed_of nxt.0 p (ranges_of held) }
-{
-    let mut absorbed = Absorbed {
-        part: p,
-        rest: none(),
-    };
-    let mut i = held.count;
-    while 0 < i {
-        i -= 1;
-        let range = held.ranges[i];
-        absorbed = absorb_one(absorbed, range, nxt, p);
+    // One range more, put last.
+    #[tactic(auto, using(crate::proofs::Slots::put_last))]
+    fn push(&mut self, range: Range)
+        requires { Canonical self.old × (self.old.count < 8) }
+        ensures { self.new ≡ held_of (ranges_of self.old ++ range ∷ []) }
+    {
+        self.ranges[self.count] = range;
+        self.count += 1;
     }
-    absorbed
-}
 
-pub fn least(a: u32, b: u32) -> u32
-    ensures { result ≡ min a b }
-{
-    if a < b { a } else { b }
-}
+    // The part joined with the ranges that it meets.
+    pub(crate) fn joined(&self, nxt: Seq, part: Part) -> Part
+        ensures { result ≡ joined nxt.0 part (ranges_of self.now) }
+    {
+        let mut joined = part;
+        for range in self.as_slice().iter().rev() {
+            if part.meets(nxt, *range) {
+                joined.from = range.left.offset(nxt).min(joined.from);
+                joined.to = range.right.offset(nxt).max(joined.to);
+            }
+        }
+        joined
+    }
 
-fn greatest(a: u32, b: u32) -> u32
-    ensures { result ≡ max a b }
-{
-    if a < b { b } else { a }
+    // The ranges that the part does not meet, in their order.
+    pub(crate) fn unmet(&self, nxt: Seq, part: Part) -> Held
+        ensures { result ≡ held_of (unmet nxt.0 part (ranges_of self.now)) }
+    {
+        let mut rest = Held::none();
+        for range in self.as_slice() {
+            if !part.meets(nxt, *range) {
+                rest.push(*range);
+            }
+        }
+        rest
+    }
 }

@@ -11,8 +11,8 @@ use Rattle.rto.proofs.Rounding.{Floor, mean_is}
 use Rattle.rto.proofs.Value.{LeastNotBelow, value_least}
 
 -- a new timer has 1,000 ms and no sample
-pub new_timer_lem : (new_timer.timeout ≡ 1000) × (new_timer.sampled ≡ false)
-new_timer_lem = (refl, refl)
+pub new_timer_starts : (new_timer.timeout ≡ 1000) × (new_timer.sampled ≡ false)
+new_timer_starts = (refl, refl)
 
 -- S and V are set, and the present value is the one worked out of them: so after a sample, and until an expiry.
 abbrev pub Fresh : Timer → Type 0

@@ -10,9 +10,10 @@ const MAX_SAMPLE: u32 = 600_000;
 // The most samples in a round trip that a sample may name.
 const MAX_EXPECTED: u32 = 16;
 
-// The limits of the timer's value, in ms.
+// The least value that a sample gives, in ms.
 const MIN_TIMEOUT: u32 = 1_000;
 
+// The greatest value that a sample or an expiry gives, in ms.
 pub const MAX_TIMEOUT: u32 = 60_000;
 
 // A round-trip sample that is not refused.

@@ -6,28 +6,24 @@ use Prim.Native.Nat.{ℕ, ◌+◌, ◌*◌, ◌/◌, ◌%◌, ◌≤◌}
 use native.Mathlib.Omega.{arith}
 use lib.Dec.{eqb}
 use borrow.Author.Tests.{eq-eqb, ne_eqb}
+use Rattle.std.specs.Prelude.{Option, None, Some, is_some}
 use Rattle.octets.specs.Octets.{big_endian, number_at}
 use Rattle.octets.proofs.ReadBack.{number_at_big_endian}
 use Rattle.offers.specs.declared.Offers.{Offers}
-use Rattle.offers.specs.declared.Scale.{Scale}
 use Rattle.connection.specs.declared.Setup.{Setup}
 use Rattle.script.specs.Setup.{offers_in, scale_in, setup_in}
 
 abbrev bit : Bool → ℕ
 bit b = cond b 1 0
 
-abbrev is_offered : Scale → Bool
-is_offered Scale.Absent = false
-is_offered (Scale.Shift shift) = true
-
 -- shift (1); where none is offered, it holds anything
-abbrev pub shift_octet : Scale → ℕ → ℕ
-shift_octet Scale.Absent anything = anything
-shift_octet (Scale.Shift shift) anything = shift
+abbrev pub shift_octet : Option ℕ → ℕ → ℕ
+shift_octet None anything = anything
+shift_octet (Some shift) anything = shift
 
 -- offers (1: bit 0 timestamps, bit 1 SACK, bit 2 window scale), whatever the bits above
 abbrev pub offers_octet : Offers → ℕ → ℕ
-offers_octet o above = bit o.timestamps + 2 * bit o.sack + 4 * bit (is_offered o.scale) + 8 * above
+offers_octet o above = bit o.timestamps + 2 * bit o.sack + 4 * bit (is_some o.scale) + 8 * above
 
 is_set : (b : Bool) (n : ℕ) → n ≡ bit b → eqb n 1 ≡ b
 is_set true n e = eq-eqb n 1 e
@@ -37,9 +33,9 @@ bit_most : (b : Bool) → bit b ≤ 1
 bit_most true = omega arith
 bit_most false = omega arith
 
-scale_read : (scale : Scale) (anything : ℕ) → scale_in (shift_octet scale anything) (is_offered scale) ≡ scale
-scale_read Scale.Absent anything = refl
-scale_read (Scale.Shift shift) anything = refl
+scale_read : (scale : Option ℕ) (anything : ℕ) → scale_in (shift_octet scale anything) (is_some scale) ≡ scale
+scale_read None anything = refl
+scale_read (Some shift) anything = refl
 
 -- without bit 2 the shift octet offers nothing, whatever it holds
 pub offers_read : (o : Offers) (anything above : ℕ) → offers_in (shift_octet o.scale anything) (offers_octet o above) ≡ o
@@ -48,11 +44,11 @@ offers_read o anything above =
     let bits = offers_octet o above in
     let t = bit_most o.timestamps in
     let s = bit_most o.sack in
-    let w = bit_most (is_offered o.scale) in
+    let w = bit_most (is_some o.scale) in
     let timestamps : (offers_in shift bits).timestamps ≡ o.timestamps = is_set o.timestamps (bits % 2) (omega arith) in
     let sack : (offers_in shift bits).sack ≡ o.sack = is_set o.sack (bits / 2 % 2) (omega arith) in
     let scale : (offers_in shift bits).scale ≡ o.scale =
-    ap (scale_in shift) (is_set (is_offered o.scale) (bits / 4 % 2) (omega arith)) ∙ scale_read o.scale anything in
+    ap (scale_in shift) (is_set (is_some o.scale) (bits / 4 % 2) (omega arith)) ∙ scale_read o.scale anything in
     λ i. record { scale = scale i; timestamps = timestamps i; sack = sack i }
 
 -- ISS (4), shift (1), offers (1), first receive window (4), offset of our timestamps (4); what follows is not looked at

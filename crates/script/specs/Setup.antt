@@ -1,13 +1,12 @@
 -- What an opening is given, as a script's call holds it (docs/REPLAY.md): ISS (4 octets), shift (1), offers (1), first receive window (4),
 -- offset of our timestamps (4).
-use Rattle.std.specs.Prelude.{Bool, cond, List, ℕ, ◌/◌, ◌%◌, eqb, get_or}
+use Rattle.std.specs.Prelude.{Bool, cond, List, ℕ, ◌/◌, ◌%◌, eqb, get_or, Option, None, Some}
 use Rattle.octets.specs.Octets.{number_at}
 use Rattle.offers.specs.declared.Offers.{Offers}
-use Rattle.offers.specs.declared.Scale.{Scale}
 use Rattle.connection.specs.declared.Setup.{Setup}
 
-abbrev pub scale_in : ℕ → Bool → Scale
-scale_in shift offered = cond offered (Scale.Shift shift) Scale.Absent
+abbrev pub scale_in : ℕ → Bool → Option ℕ
+scale_in shift offered = cond offered (Some shift) None
 
 -- bit 0 timestamps, bit 1 SACK, bit 2 window scale
 abbrev pub offers_in : ℕ → ℕ → Offers

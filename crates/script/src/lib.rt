@@ -3,25 +3,23 @@
 #![tactic(auto)]
 
 ghost use Rattle.std.specs.Prelude.{◌≡◌};
-ghost use Rattle.script.specs.Setup.{offers_in, scale_in, setup_in};
+ghost use Rattle.script.specs.Setup.{offers_in, setup_in};
 
 use connection::Setup;
-use offers::{Offers, Scale};
+use octets::{Number, read_u8};
+use offers::Offers;
 use serial::Seq;
 
 // What an opening is given, from the start of its call's body; octets past the end count as 0.
+#[tactic(auto, unfolding(crate::specs::Setup::setup_in))]
 pub fn setup(body: &[u8]) -> Setup
     ensures { result ≡ setup_in body.now }
 {
-    let iss = Seq(octets::read_u32(body, 0));
-    let offers = offers(octets::read_u8(body, 4), octets::read_u8(body, 5));
-    let window = octets::read_u32(body, 6);
-    let offset = octets::read_u32(body, 10);
     Setup {
-        iss,
-        offers,
-        window,
-        offset,
+        iss: Seq(u32::read(body, 0)),
+        offers: offers(read_u8(body, 4), read_u8(body, 5)),
+        window: u32::read(body, 6),
+        offset: u32::read(body, 10),
     }
 }
 
@@ -29,19 +27,9 @@ pub fn setup(body: &[u8]) -> Setup
 fn offers(shift: u8, bits: u8) -> Offers
     ensures { result ≡ offers_in shift bits }
 {
-    let scale = scale(shift, bits / 4 % 2 == 1);
     Offers {
-        scale,
-        timestamps: bits % 2 == 1,
-        sack: bits / 2 % 2 == 1,
+        scale: (bits >> 2 & 1 == 1).then_some(shift),
+        timestamps: bits & 1 == 1,
+        sack: bits >> 1 & 1 == 1,
     }
-}
-
-fn scale(shift: u8, offered: bool) -> Scale
-    ensures { result ≡ scale_in shift offered }
-{
-    if offered {
-        return Scale::Shift(shift);
-    }
-    Scale::Absent
 }

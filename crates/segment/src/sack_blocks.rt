@@ -1,5 +1,5 @@
 // The blocks of a SACK option.
-ghost use Rattle.std.specs.Prelude.{◌≡◌, [], ◌∷◌, ◌++◌, length, take};
+ghost use Rattle.std.specs.Prelude.{◌≡◌, ◌≤◌, [], ◌∷◌, ◌++◌, length, take};
 
 use serial::{Range, Seq};
 use std::marker::Model;
@@ -53,7 +53,8 @@ impl SackBlocks {
     }
 
     pub fn as_slice(&self) -> &[Range]
-        ensures { result.now ≡ self.now }
+        ensures blocks { result.now ≡ self.now }
+        ensures few { length self.now ≤ 4 }
     {
         &self.blocks[..self.count]
     }

@@ -10,6 +10,7 @@ use serial::{Seq, Serial, Stamp};
 // 24 days, in ms.
 const LIFETIME: u64 = 2_073_600_000;
 
+// The flag stands beside the other fields, and not around them: document 01 gives those a value where timestamps are not in force, too.
 #[derive(Clone, Copy)]
 pub struct Timestamping {
     // Whether they are in force.

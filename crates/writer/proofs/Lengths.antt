@@ -1,16 +1,14 @@
 -- How many octets are written, and which SACK blocks fit among them. Assumes nothing.
-use mathlib.Core.Bool.{Bool, true, false}
+use mathlib.Core.Bool.{Bool, true, false, cond}
 use mathlib.Core.List.{List, [], ◌∷◌, ◌++◌}
 use mathlib.Core.Path.{◌≡◌, refl}
-use Prim.Native.Nat.{ℕ, ◌+◌, ◌-◌, ◌*◌, ◌/◌, ◌%◌, ◌≤◌}
+use Prim.Native.Nat.{ℕ, ◌+◌, ◌-◌, ◌*◌, ◌/◌, ◌%◌, ◌≤◌, ◌<◌}
 use native.Mathlib.Omega.{arith}
 use lib.ListN.{length, length-append, length-take}
 use lib.Seq.{take_all}
+use Rattle.std.specs.Prelude.{Option, Some, None, is_some}
 use Rattle.serial.specs.declared.Range.{Range}
 use Rattle.octets.specs.Octets.{big_endian}
-use Rattle.offers.specs.declared.Scale.{Scale}
-use Rattle.segment.specs.Options.{block_list}
-use Rattle.segment.specs.declared.Mss.{Mss}
 use Rattle.segment.specs.declared.Options.{Options}
 use Rattle.segment.specs.declared.Timestamps.{Timestamps}
 use Rattle.writer.specs.Writing.{block_room, blocks_written, fitting, header_written, mss_written, options_written, others_written, sack_written, scale_written, timestamps_written, written}
@@ -27,27 +25,56 @@ aligned_append {a} {b} p q = record {
   most = omega (arith, length-append a b);
 }
 
-pub aligned_mss : (mss : Mss) → Aligned (mss_written mss) 4
+pub aligned_mss : (mss : Option ℕ) → Aligned (mss_written mss) 4
 unfolding mss_written big_endian
-aligned_mss Mss.Absent = record { whole = refl; most = omega arith }
-aligned_mss (Mss.Octets n) = record { whole = refl; most = omega arith }
+aligned_mss None = record { whole = refl; most = omega arith }
+aligned_mss (Some n) = record { whole = refl; most = omega arith }
 
-pub aligned_timestamps : (permitted : Bool) (t : Timestamps) → Aligned (timestamps_written permitted t) 12
+pub aligned_timestamps : (permitted : Bool) (t : Option Timestamps) → Aligned (timestamps_written permitted t) 12
 unfolding timestamps_written big_endian
-aligned_timestamps false Timestamps.Absent = record { whole = refl; most = omega arith }
-aligned_timestamps true Timestamps.Absent = record { whole = refl; most = omega arith }
-aligned_timestamps false (Timestamps.Pair value echoed) = record { whole = refl; most = omega arith }
-aligned_timestamps true (Timestamps.Pair value echoed) = record { whole = refl; most = omega arith }
+aligned_timestamps false None = record { whole = refl; most = omega arith }
+aligned_timestamps true None = record { whole = refl; most = omega arith }
+aligned_timestamps false (Some t) = record { whole = refl; most = omega arith }
+aligned_timestamps true (Some t) = record { whole = refl; most = omega arith }
 
-pub aligned_scale : (scale : Scale) → Aligned (scale_written scale) 4
+pub aligned_scale : (scale : Option ℕ) → Aligned (scale_written scale) 4
 unfolding scale_written
-aligned_scale Scale.Absent = record { whole = refl; most = omega arith }
-aligned_scale (Scale.Shift n) = record { whole = refl; most = omega arith }
+aligned_scale None = record { whole = refl; most = omega arith }
+aligned_scale (Some n) = record { whole = refl; most = omega arith }
+
+-- the octets of each option, where it is there
+pub length_mss : (mss : Option ℕ) → length (mss_written mss) ≡ cond (is_some mss) 4 0
+unfolding mss_written big_endian
+length_mss None = refl
+length_mss (Some n) = refl
+
+pub length_timestamps : (permitted : Bool) (t : Option Timestamps)
+    → length (timestamps_written permitted t) ≡ cond (is_some t) 12 (cond permitted 4 0)
+unfolding timestamps_written big_endian
+length_timestamps false None = refl
+length_timestamps true None = refl
+length_timestamps false (Some t) = refl
+length_timestamps true (Some t) = refl
+
+pub length_scale : (scale : Option ℕ) → length (scale_written scale) ≡ cond (is_some scale) 4 0
+unfolding scale_written
+length_scale None = refl
+length_scale (Some n) = refl
 
 pub length_blocks : (bs : List Range) → length (blocks_written bs) ≡ 8 * length bs
 unfolding blocks_written big_endian
 length_blocks [] = refl
 length_blocks (b ∷ bs) = omega (arith, length_blocks bs)
+
+pub no_sack : (bs : List Range) → length bs ≡ 0 → sack_written bs ≡ []
+unfolding sack_written
+no_sack [] none = refl
+no_sack (b ∷ bs) none = absurd (omega arith)
+
+pub length_sack : (bs : List Range) → 0 < length bs → length (sack_written bs) ≡ 4 + 8 * length bs
+unfolding sack_written
+length_sack [] some = absurd (omega arith)
+length_sack (b ∷ bs) some = omega (arith, length_blocks (b ∷ bs))
 
 -- in m octets of which four are not for blocks
 aligned_sack : (bs : List Range) (m : ℕ) → 4 ≤ m → length bs ≤ (m - 4) / 8 → Aligned (sack_written bs) m
@@ -64,12 +91,16 @@ module _ (o : Options) where
 
   pub fitting_most : length (fitting o) ≤ block_room (length (others_written o))
   unfolding fitting
-  fitting_most = omega (arith, length-take (block_room (length (others_written o))) (block_list o.blocks))
+  fitting_most = omega (arith, length-take (block_room (length (others_written o))) o.blocks)
+
+  -- and they are four at most
+  pub few_fit : length (fitting o) ≤ 4
+  few_fit = omega (arith, fitting_most)
 
   -- where all blocks fit, none is left out
-  pub fits : length (block_list o.blocks) ≤ block_room (length (others_written o)) → fitting o ≡ block_list o.blocks
+  pub fits : length o.blocks ≤ block_room (length (others_written o)) → fitting o ≡ o.blocks
   unfolding fitting
-  fits few = take_all _ (block_list o.blocks) few
+  fits few = take_all _ o.blocks few
 
   pub aligned_options : Aligned (options_written o) 40
   unfolding options_written

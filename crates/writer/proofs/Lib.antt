@@ -5,4 +5,5 @@ pub mod Lengths
 pub mod OptionOctets
 mod OptionsBack
 pub mod ReadBack
+mod Runs
 mod Storing

@@ -6,13 +6,10 @@ use Prim.Native.Nat.{ℕ, ◌+◌, ◌*◌, ◌<◌}
 use native.Mathlib.Omega.{arith}
 use lib.ListN.{drop, length, length-append, length-take, take}
 use lib.Seq.{take-length, take-take}
+use Rattle.std.specs.Prelude.{Some, None}
 use Rattle.serial.specs.declared.Range.{Range}
-use Rattle.serial.specs.declared.Stamp.{Stamp}
 use Rattle.octets.specs.Octets.{big_endian, number_at}
 use Rattle.octets.proofs.ReadBack.{length_big_endian, number_at_big_endian, number_at_within}
-use Rattle.offers.specs.declared.Scale.{Scale}
-use Rattle.segment.specs.Options.{block_list}
-use Rattle.segment.specs.declared.Mss.{Mss}
 use Rattle.segment.specs.declared.Options.{Options}
 use Rattle.segment.specs.declared.Timestamps.{Timestamps}
 use Rattle.writer.specs.Writing.{block_room, blocks_written, fitting, header_written, mss_written, options_written, others_written, sack_written, scale_written, timestamps_written, written}
@@ -20,39 +17,39 @@ use Rattle.writer.specs.declared.Header.{Header}
 use Rattle.writer.proofs.Lengths.{aligned_others, fitting_most, length_blocks}
 
 -- 02 04 and the size, big-endian
-pub mss_octets : (n : ℕ) → mss_written (Mss.Octets n) ≡ 2 ∷ 4 ∷ big_endian 2 n
+pub mss_octets : (n : ℕ) → mss_written (Some n) ≡ 2 ∷ 4 ∷ big_endian 2 n
 unfolding mss_written
 mss_octets n = refl
 
 -- 01 01 08 0A TSval TSecr
-pub timestamps_octets : (value echoed : Stamp)
-    → timestamps_written false (Timestamps.Pair value echoed) ≡ 1 ∷ 1 ∷ 8 ∷ 10 ∷ (big_endian 4 value.0 ++ big_endian 4 echoed.0)
+pub timestamps_octets : (t : Timestamps)
+    → timestamps_written false (Some t) ≡ 1 ∷ 1 ∷ 8 ∷ 10 ∷ (big_endian 4 t.value.0 ++ big_endian 4 t.echoed.0)
 unfolding timestamps_written
-timestamps_octets value echoed = refl
+timestamps_octets t = refl
 
 -- SACK-permitted stands in the place of the NOPs, and NOPs in that of timestamps
-pub both_octets : (value echoed : Stamp)
-    → timestamps_written true (Timestamps.Pair value echoed) ≡ 4 ∷ 2 ∷ 8 ∷ 10 ∷ (big_endian 4 value.0 ++ big_endian 4 echoed.0)
+pub both_octets : (t : Timestamps)
+    → timestamps_written true (Some t) ≡ 4 ∷ 2 ∷ 8 ∷ 10 ∷ (big_endian 4 t.value.0 ++ big_endian 4 t.echoed.0)
 unfolding timestamps_written
-both_octets value echoed = refl
+both_octets t = refl
 
-pub permitted_octets : timestamps_written true Timestamps.Absent ≡ 4 ∷ 2 ∷ 1 ∷ 1 ∷ []
+pub permitted_octets : timestamps_written true None ≡ 4 ∷ 2 ∷ 1 ∷ 1 ∷ []
 unfolding timestamps_written
 permitted_octets = refl
 
 -- 01 03 03 and the shift
-pub scale_octets : (n : ℕ) → scale_written (Scale.Shift n) ≡ 1 ∷ 3 ∷ 3 ∷ n ∷ []
+pub scale_octets : (n : ℕ) → scale_written (Some n) ≡ 1 ∷ 3 ∷ 3 ∷ n ∷ []
 unfolding scale_written
 scale_octets n = refl
 
 -- an option that is not there has no octets
-pub none_octets : (mss_written Mss.Absent ≡ []) × (timestamps_written false Timestamps.Absent ≡ [])
-    × (scale_written Scale.Absent ≡ []) × (sack_written [] ≡ [])
+pub none_octets : (mss_written None ≡ []) × (timestamps_written false None ≡ [])
+    × (scale_written None ≡ []) × (sack_written [] ≡ [])
 unfolding mss_written timestamps_written scale_written sack_written
 none_octets = (refl, refl, refl, refl)
 
 -- the SACK option: 01 01 05 and length 8n+2, and n blocks
-sack_parts : (bs : List Range) → 0 < length bs → sack_written bs ≡ (1 ∷ 1 ∷ 5 ∷ (8 * length bs + 2) ∷ []) ++ blocks_written bs
+pub sack_parts : (bs : List Range) → 0 < length bs → sack_written bs ≡ (1 ∷ 1 ∷ 5 ∷ (8 * length bs + 2) ∷ []) ++ blocks_written bs
 unfolding sack_written
 sack_parts [] some = absurd (omega arith)
 sack_parts (b ∷ bs) some = refl
@@ -60,11 +57,8 @@ sack_parts (b ∷ bs) some = refl
 pub sack_start : (bs : List Range) → 0 < length bs → take 4 (sack_written bs) ≡ 1 ∷ 1 ∷ 5 ∷ (8 * length bs + 2) ∷ []
 sack_start bs some = ap (take 4) (sack_parts bs some)
 
-pub length_sack : (bs : List Range) → 0 < length bs → length (sack_written bs) ≡ 4 + 8 * length bs
-length_sack bs some = omega (arith, ap length (sack_parts bs some), length_blocks bs)
-
 -- each block as left, right, where it stands in their order
-blocks_split : (before : List Range) (b : Range) (after : List Range) → blocks_written (before ++ (b ∷ after))
+pub blocks_split : (before : List Range) (b : Range) (after : List Range) → blocks_written (before ++ (b ∷ after))
     ≡ blocks_written before ++ (big_endian 4 b.left.0 ++ (big_endian 4 b.right.0 ++ blocks_written after))
 unfolding blocks_written big_endian
 blocks_split [] b after = refl
@@ -97,8 +91,8 @@ module _ (before : List Range) (b : Range) (after : List Range) where
       (λ i. number_at 4 (octets_are i) (sym length_front i)) ∙ number_at_within 4 front (left ++ later)
       ∙ number_at_big_endian 3 b.left.0 later
 
-  pub right_edge_lem : number_at 4 (sack_written (before ++ (b ∷ after))) (8 + 8 * length before) ≡ b.right.0
-  right_edge_lem =
+  pub right_edge : number_at 4 (sack_written (before ++ (b ∷ after))) (8 + 8 * length before) ≡ b.right.0
+  right_edge =
       let place : 8 + 8 * length before ≡ length (front ++ left) =
       omega (arith, length_front, length-append front left, length_big_endian 4 b.left.0) in
       (λ i. number_at 4 ((octets_are ∙ sym (append_assoc front left later)) i) (place i))
@@ -117,12 +111,12 @@ module _ (o : Options) where
   from_20 h = refl
 
   -- the blocks that are written are the first, as many as there is room for in 40 octets
-  pub first_blocks : fitting o ≡ take (length (fitting o)) (block_list o.blocks)
+  pub first_blocks : fitting o ≡ take (length (fitting o)) o.blocks
   unfolding fitting
   first_blocks =
-      sym (take-length (fitting o)) ∙ take-take (length (fitting o)) (block_room (length (others_written o))) (block_list o.blocks) (fitting_most o)
+      sym (take-length (fitting o)) ∙ take-take (length (fitting o)) (block_room (length (others_written o))) o.blocks (fitting_most o)
 
-  pub no_more_fit : length (fitting o) < length (block_list o.blocks) → 40 < length (others_written o) + (4 + 8 * (length (fitting o) + 1))
+  pub no_more_fit : length (fitting o) < length o.blocks → 40 < length (others_written o) + (4 + 8 * (length (fitting o) + 1))
   unfolding fitting
   no_more_fit left =
-      omega (arith, length-take (block_room (length (others_written o))) (block_list o.blocks), (aligned_others o).most)
+      omega (arith, length-take (block_room (length (others_written o))) o.blocks, (aligned_others o).most)

@@ -13,12 +13,12 @@ use Rattle.segment.specs.declared.Options.{Options}
 use Rattle.segment.proofs.FlagsRead.{flags_read}
 use Rattle.segment.proofs.OptionsRead.{Said}
 use Rattle.segment.proofs.Readable.{Passed, read_if}
-use Rattle.writer.specs.Writing.{blocks_of_list, fitting, flags_written, header_written, options_written, segment_written, writing, written}
+use Rattle.writer.specs.Writing.{fitting, flags_written, header_written, options_written, segment_written, writing, written}
 use Rattle.writer.specs.declared.Header.{Header}
 use Rattle.writer.proofs.Answers.{writes_if}
 use Rattle.writer.proofs.KindsRead.{with_blocks}
 use Rattle.writer.proofs.Lengths.{length_options, length_written, units, units_most}
-use Rattle.writer.proofs.OptionsBack.{options_read_lem}
+use Rattle.writer.proofs.OptionsBack.{options_back}
 
 pub flags_back : (f : Flags) → flags_of (flags_written f) ≡ f
 unfolding flags_written
@@ -44,11 +44,11 @@ module _ (h : Header) (o : Options) where
   unfolding written header_written big_endian
   options_octets = ap (drop 20) (take_all (4 * data_offset (written h o)) (written h o) (omega (arith, end_is, length_written h o)))
 
-  options_said : Said [] (steps_of (written h o)) (with_blocks o (blocks_of_list (fitting o)))
-  options_said = rw options_octets ((options_read_lem o).steps 20 [] refl refl)
+  options_said : Said [] (steps_of (written h o)) (with_blocks o (fitting o))
+  options_said = rw options_octets ((options_back o).steps 20 [] refl refl)
 
   -- each field of the header is the number that was written there
-  fields_back : segment_of (written h o) (20 + length (options_written o)) 0 (with_blocks o (blocks_of_list (fitting o))) ≡ segment_written h o
+  fields_back : segment_of (written h o) (20 + length (options_written o)) 0 (with_blocks o (fitting o)) ≡ segment_written h o
   unfolding segment_of segment_written written header_written big_endian number_at
   fields_back =
       let payload : length (written h o) - (20 + length (options_written o)) ≡ 0 = omega (arith, length_written h o) in
@@ -61,7 +61,7 @@ module _ (h : Header) (o : Options) where
         flags = flags i;
         window = number_at_big_endian 1 h.window [] i;
         urgent = 0;
-        options = with_blocks o (blocks_of_list (fitting o));
+        options = with_blocks o (fitting o);
         skipped = 0;
         payload = record { start = 20 + length (options_written o); length = payload i };
         len = len_of (payload i) (flags i);

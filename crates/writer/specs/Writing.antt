@@ -1,19 +1,16 @@
 -- A segment without payload, written from the fields of its header and from its options: the layout of document 01, "Reading a segment",
 -- and the octets of its "Acknowledgments written". MSS, SACK-permitted and window scale stand as in the opening segments of document 02.
-use Rattle.std.specs.Prelude.{ℕ, ◌+◌, ◌-◌, ◌*◌, ◌/◌, Bool, true, false, cond, List, [], ◌∷◌, ◌++◌, ltb, length, take}
+use Rattle.std.specs.Prelude.{ℕ, ◌+◌, ◌-◌, ◌*◌, ◌/◌, Bool, true, false, cond, List, [], ◌∷◌, ◌++◌, ltb, length, take, Option, Some, None, Result, Ok, Err}
 use Rattle.serial.specs.declared.Range.{Range}
 use Rattle.octets.specs.Octets.{big_endian, stored}
-use Rattle.offers.specs.declared.Scale.{Scale}
-use Rattle.segment.specs.Options.{block_list, one_to_four}
+use Rattle.refusals.specs.Number.{number_of}
 use Rattle.segment.specs.Reading.{len_of}
 use Rattle.segment.specs.declared.Flags.{Flags}
-use Rattle.segment.specs.declared.Mss.{Mss}
 use Rattle.segment.specs.declared.Options.{Options}
-use Rattle.segment.specs.declared.SackBlocks.{SackBlocks}
 use Rattle.segment.specs.declared.Segment.{Segment}
 use Rattle.segment.specs.declared.Timestamps.{Timestamps}
+use Rattle.writer.specs.declared.BufferTooShort.{BufferTooShort}
 use Rattle.writer.specs.declared.Header.{Header}
-use Rattle.writer.specs.declared.Writing.{Writing}
 
 -- from bit 7: CWR ECE URG ACK PSH RST SYN FIN
 unfoldable pub flags_written : Flags → ℕ
@@ -28,25 +25,25 @@ header_written h units =
     ++ ((16 * units) ∷ flags_written h.flags ∷ (big_endian 2 h.window ++ (0 ∷ 0 ∷ 0 ∷ 0 ∷ []))))))
 
 -- Each option is a multiple of 4 octets, with NOPs where it needs them. MSS: 02 04 and the size
-unfoldable pub mss_written : Mss → List ℕ
-mss_written Mss.Absent = []
-mss_written (Mss.Octets n) = 2 ∷ 4 ∷ big_endian 2 n
+unfoldable pub mss_written : Option ℕ → List ℕ
+mss_written None = []
+mss_written (Some n) = 2 ∷ 4 ∷ big_endian 2 n
 
 -- 08 0A TSval TSecr
-abbrev pub stamps_written : ℕ → ℕ → List ℕ
-stamps_written value echoed = 8 ∷ 10 ∷ (big_endian 4 value ++ big_endian 4 echoed)
+abbrev pub stamps_written : Timestamps → List ℕ
+stamps_written t = 8 ∷ 10 ∷ (big_endian 4 t.value.0 ++ big_endian 4 t.echoed.0)
 
 -- SACK-permitted, 04 02, with timestamps: two NOPs stand in the place of a missing one, and nothing is written if both are missing
-unfoldable pub timestamps_written : Bool → Timestamps → List ℕ
-timestamps_written false Timestamps.Absent = []
-timestamps_written true Timestamps.Absent = 4 ∷ 2 ∷ 1 ∷ 1 ∷ []
-timestamps_written false (Timestamps.Pair value echoed) = 1 ∷ 1 ∷ stamps_written value.0 echoed.0
-timestamps_written true (Timestamps.Pair value echoed) = 4 ∷ 2 ∷ stamps_written value.0 echoed.0
+unfoldable pub timestamps_written : Bool → Option Timestamps → List ℕ
+timestamps_written false None = []
+timestamps_written true None = 4 ∷ 2 ∷ 1 ∷ 1 ∷ []
+timestamps_written false (Some t) = 1 ∷ 1 ∷ stamps_written t
+timestamps_written true (Some t) = 4 ∷ 2 ∷ stamps_written t
 
 -- NOP, 03 03 and the shift
-unfoldable pub scale_written : Scale → List ℕ
-scale_written Scale.Absent = []
-scale_written (Scale.Shift n) = 1 ∷ 3 ∷ 3 ∷ n ∷ []
+unfoldable pub scale_written : Option ℕ → List ℕ
+scale_written None = []
+scale_written (Some n) = 1 ∷ 3 ∷ 3 ∷ n ∷ []
 
 -- blocks as left, right
 unfoldable pub blocks_written : List Range → List ℕ
@@ -69,7 +66,7 @@ block_room others = (40 - others - 4) / 8
 
 -- the blocks that are written: as many of the first as fit
 unfoldable pub fitting : Options → List Range
-fitting o = take (block_room (length (others_written o))) (block_list o.blocks)
+fitting o = take (block_room (length (others_written o))) o.blocks
 
 unfoldable pub options_written : Options → List ℕ
 options_written o = others_written o ++ sack_written (fitting o)
@@ -77,11 +74,6 @@ options_written o = others_written o ++ sack_written (fitting o)
 -- header and options
 unfoldable pub written : Header → Options → List ℕ
 written h o = header_written h (5 + length (options_written o) / 4) ++ options_written o
-
--- at most four blocks, as the reader gives them
-unfoldable pub blocks_of_list : List Range → SackBlocks
-blocks_of_list [] = SackBlocks.Absent
-blocks_of_list (b ∷ bs) = one_to_four b bs
 
 -- what our reader is to make of it: these fields, urgent 0, these options with the blocks that fit, no other option, no payload
 unfoldable pub segment_written : Header → Options → Segment
@@ -97,7 +89,7 @@ segment_written h o = record {
     mss = o.mss;
     scale = o.scale;
     permitted = o.permitted;
-    blocks = blocks_of_list (fitting o);
+    blocks = fitting o;
     timestamps = o.timestamps;
   };
   skipped = 0;
@@ -118,14 +110,16 @@ writing h o buffer =
     cond (ltb (length buffer) (length octets)) (record { number = 7; length = 0; buffer = buffer })
     (record { number = 0; length = length octets; buffer = stored octets buffer })
 
--- the number and length of each case of the answer that the code gives, with the buffer afterwards
-abbrev pub number_of_writing : Writing → ℕ
-number_of_writing (Writing.Octets n) = 0
-number_of_writing Writing.BufferTooShort = 7
+-- E7's number, and the number and length of the answer that the code gives, with the buffer afterwards
+abbrev pub refusal_number : BufferTooShort → ℕ
+refusal_number why = 7
 
-abbrev pub length_of_writing : Writing → ℕ
-length_of_writing (Writing.Octets n) = n
-length_of_writing Writing.BufferTooShort = 0
+abbrev pub number_of_writing : Result ℕ BufferTooShort → ℕ
+number_of_writing w = number_of refusal_number w
 
-abbrev pub shown_writing : Writing → List ℕ → Answer
+abbrev pub length_of_writing : Result ℕ BufferTooShort → ℕ
+length_of_writing (Ok n) = n
+length_of_writing (Err why) = 0
+
+abbrev pub shown_writing : Result ℕ BufferTooShort → List ℕ → Answer
 shown_writing w buffer = record { number = number_of_writing w; length = length_of_writing w; buffer = buffer }

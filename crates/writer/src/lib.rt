@@ -2,13 +2,16 @@
 
 #![tactic(auto)]
 
+mod cursor;
 mod fixed_header;
 mod option_list;
 mod sizes;
 
 ghost use Rattle.std.specs.Prelude.{◌≡◌};
-ghost use Rattle.writer.specs.Writing.{number_of_writing, shown_writing, writing};
+ghost use Rattle.std.proofs.Common.{rules};
+ghost use Rattle.writer.specs.Writing.{refusal_number, shown_writing, writing};
 
+use refusals::Numbered;
 use segment::{Flags, Options};
 use serial::Seq;
 
@@ -16,7 +19,7 @@ use serial::Seq;
 const FIXED_HEADER: usize = 20;
 
 // The ports of a segment that is written.
-#[derive(Clone, Copy)]
+#[derive(Clone, Copy, PartialEq, Eq)]
 pub struct Ports {
     pub source: u16,
     pub destination: u16,
@@ -32,38 +35,31 @@ pub struct Header {
     pub window: u16,
 }
 
-// How many octets were written, or E7.
-#[derive(Clone, Copy)]
-pub enum Writing {
-    Octets(usize),
-    BufferTooShort,
-}
+// E7.
+#[derive(Clone, Copy, PartialEq, Eq)]
+pub struct BufferTooShort;
 
-impl Writing {
-    // The refusal's number, 0 where octets were written.
-    pub fn number(self) -> u8
-        ensures { result ≡ number_of_writing self }
-    {
-        match self {
-            Writing::Octets(_) => 0,
-            Writing::BufferTooShort => 7,
-        }
+impl Numbered for BufferTooShort {
+    ghost number = { refusal_number };
+
+    fn number(self) -> u8 {
+        7
     }
+
+    ghost positive = { Prim.search rules };
 }
 
-// Writes header and options of a segment without payload at the start of the buffer, and leaves the octets after them. Of the SACK blocks
-// as many are written as fit. A buffer that is too short stays as it is.
-pub fn write(header: Header, options: Options, buffer: &mut [u8]) -> Writing
+// Writes header and options of a segment without payload at the start of the buffer, leaves the octets after them, and answers how many
+// octets they are. Of the SACK blocks as many are written as fit. A buffer that is too short stays as it is.
+pub fn write(header: Header, options: Options, buffer: &mut [u8]) -> Result<usize, BufferTooShort>
     ensures { shown_writing result buffer.new ≡ writing header options buffer.old }
 {
-    let reported = options.blocks;
-    let others = sizes::others_size(options);
-    let blocks = sizes::fitting(others, reported);
-    let size = FIXED_HEADER + others + sizes::sack_size(blocks);
+    let blocks = sizes::fitting(&options);
+    let size = sizes::size(&options, blocks.as_slice());
     if buffer.len() < size {
-        return Writing::BufferTooShort;
+        return Err(BufferTooShort);
     }
     fixed_header::write_header(buffer, header, (size / 4) as u8);
-    option_list::write_options(buffer, options, blocks);
-    Writing::Octets(size)
+    option_list::write_options(buffer, &options, blocks.as_slice());
+    Ok(size)
 }

@@ -1,156 +1,81 @@
 // The options, written one after the other.
-ghost use Rattle.std.specs.Prelude.{◌≡◌, cond, [], ◌∷◌, ◌+◌, ◌≤◌, length};
+ghost use Rattle.std.specs.Prelude.{◌≡◌, ◌+◌, ◌≤◌, length};
 ghost use Rattle.std.proofs.lemmas.List.Edits.{sets};
-ghost use Rattle.segment.specs.Options.{block_list};
-ghost use Rattle.writer.specs.Writing.{blocks_written, fitting, mss_written, options_written, sack_written, scale_written, timestamps_written};
+ghost use Rattle.writer.specs.Cursor.{HasRoom, Writes};
+ghost use Rattle.writer.specs.Writing.{fitting, mss_written, options_written, sack_written, scale_written, timestamps_written};
 
-use octets::{write_u8, write_u16, write_u32};
-use offers::Scale;
-use segment::{Mss, Options, SackBlocks, Timestamps, kinds};
+use super::FIXED_HEADER;
+use super::cursor::Cursor;
+use segment::kinds::{Kind, NOP};
+use segment::{Options, Timestamps};
 use serial::Range;
 
-// Four octets at a place.
-fn write_four(octets: &mut [u8], at: usize, a: u8, b: u8, c: u8, d: u8)
-    requires { at ≤ 60 }
-    ensures { octets.new ≡ sets octets.old at (a ∷ b ∷ c ∷ d ∷ []) }
-{
-    write_u8(octets, at, a);
-    write_u8(octets, at + 1, b);
-    write_u8(octets, at + 2, c);
-    write_u8(octets, at + 3, d);
-}
+// Each of these writes an option, if it is there.
 
-// Each of these writes an option, if it is there, and answers where the next one goes.
-
-fn write_mss(octets: &mut [u8], at: usize, mss: Mss) -> usize
-    requires { at ≤ 20 }
-    ensures { (octets.new ≡ sets octets.old at (mss_written mss)) × (result ≡ at + length (mss_written mss)) }
+fn write_mss(out: &mut Cursor<'_>, mss: Option<u16>)
+    requires { HasRoom out.old (mss_written mss) }
+    ensures { Writes out.old out.new (mss_written mss) }
 {
-    match mss {
-        Mss::Absent => at,
-        Mss::Octets(n) => {
-            write_u8(octets, at, kinds::MSS);
-            write_u8(octets, at + 1, 4);
-            write_u16(octets, at + 2, n);
-            at + 4
-        }
+    if let Some(n) = mss {
+        let [high, low] = n.to_be_bytes();
+        out.put(&[Kind::Mss as u8, 4, high, low]);
     }
 }
 
 // SACK-permitted and timestamps share their place.
-fn write_timestamps(octets: &mut [u8], at: usize, permitted: bool, timestamps: Timestamps) -> usize
-    requires { at ≤ 24 }
-    ensures { (octets.new ≡ sets octets.old at (timestamps_written permitted timestamps)) × (result ≡ at + length (timestamps_written permitted timestamps)) }
+fn write_timestamps(out: &mut Cursor<'_>, permitted: bool, timestamps: Option<Timestamps>)
+    requires { HasRoom out.old (timestamps_written permitted timestamps) }
+    ensures { Writes out.old out.new (timestamps_written permitted timestamps) }
 {
-    match timestamps {
-        Timestamps::Absent => write_permitted(octets, at, permitted),
-        Timestamps::Pair(value, echoed) => {
-            write_stamps_start(octets, at, permitted);
-            write_u32(octets, at + 4, value.0);
-            write_u32(octets, at + 8, echoed.0);
-            at + 12
+    match (permitted, timestamps) {
+        (false, None) => {}
+        (true, None) => out.put(&[Kind::SackPermitted as u8, 2, NOP, NOP]),
+        (false, Some(stamps)) => {
+            out.put(&[NOP, NOP, Kind::Timestamps as u8, 10]);
+            out.put_pair(stamps.value.0, stamps.echoed.0);
+        }
+        (true, Some(stamps)) => {
+            out.put(&[Kind::SackPermitted as u8, 2, Kind::Timestamps as u8, 10]);
+            out.put_pair(stamps.value.0, stamps.echoed.0);
         }
     }
 }
 
-// SACK-permitted without timestamps.
-fn write_permitted(octets: &mut [u8], at: usize, permitted: bool) -> usize
-    requires { at ≤ 24 }
-    ensures { (octets.new ≡ sets octets.old at (timestamps_written permitted Timestamps.Absent)) × (result ≡ at + length (timestamps_written permitted Timestamps.Absent)) }
+fn write_scale(out: &mut Cursor<'_>, scale: Option<u8>)
+    requires { HasRoom out.old (scale_written scale) }
+    ensures { Writes out.old out.new (scale_written scale) }
 {
-    if permitted {
-        write_four(octets, at, kinds::SACK_PERMITTED, 2, kinds::NOP, kinds::NOP);
-        return at + 4;
-    }
-    at
-}
-
-// What stands before TSval.
-fn write_stamps_start(octets: &mut [u8], at: usize, permitted: bool)
-    requires { at ≤ 24 }
-    ensures { octets.new ≡ sets octets.old at (cond permitted (4 ∷ 2 ∷ 8 ∷ 10 ∷ []) (1 ∷ 1 ∷ 8 ∷ 10 ∷ [])) }
-{
-    if permitted {
-        write_four(octets, at, kinds::SACK_PERMITTED, 2, kinds::TIMESTAMPS, 10);
-    } else {
-        write_four(octets, at, kinds::NOP, kinds::NOP, kinds::TIMESTAMPS, 10);
+    if let Some(shift) = scale {
+        out.put(&[NOP, Kind::WindowScale as u8, 3, shift]);
     }
 }
 
-fn write_scale(octets: &mut [u8], at: usize, scale: Scale) -> usize
-    requires { at ≤ 36 }
-    ensures { (octets.new ≡ sets octets.old at (scale_written scale)) × (result ≡ at + length (scale_written scale)) }
+fn write_sack(out: &mut Cursor<'_>, blocks: &[Range])
+    requires few { length blocks.now ≤ 4 }
+    requires room { HasRoom out.old (sack_written blocks.now) }
+    ensures { Writes out.old out.new (sack_written blocks.now) }
 {
-    match scale {
-        Scale::Absent => at,
-        Scale::Shift(n) => {
-            write_four(octets, at, kinds::NOP, kinds::WINDOW_SCALE, 3, n);
-            at + 4
-        }
+    if blocks.is_empty() {
+        return;
     }
-}
-
-fn write_block(octets: &mut [u8], at: usize, a: Range)
-    requires { at ≤ 80 }
-    ensures { octets.new ≡ sets octets.old at (blocks_written (a ∷ [])) }
-{
-    write_u32(octets, at, a.left.0);
-    write_u32(octets, at + 4, a.right.0);
-}
-
-fn write_two_blocks(octets: &mut [u8], at: usize, a: Range, b: Range)
-    requires { at ≤ 60 }
-    ensures { octets.new ≡ sets octets.old at (blocks_written (a ∷ b ∷ [])) }
-{
-    write_block(octets, at, a);
-    write_block(octets, at + 8, b);
-}
-
-// What stands before the blocks of a SACK option of this length.
-fn write_sack_start(octets: &mut [u8], at: usize, length: u8)
-    requires { at ≤ 40 }
-    ensures { octets.new ≡ sets octets.old at (1 ∷ 1 ∷ 5 ∷ length ∷ []) }
-{
-    write_four(octets, at, kinds::NOP, kinds::NOP, kinds::SACK, length);
-}
-
-fn write_sack(octets: &mut [u8], at: usize, blocks: SackBlocks)
-    requires { at ≤ 40 }
-    ensures { octets.new ≡ sets octets.old at (sack_written (block_list blocks)) }
-{
-    match blocks {
-        SackBlocks::Absent => {}
-        SackBlocks::One(a) => {
-            write_sack_start(octets, at, 10);
-            write_block(octets, at + 4, a);
-        }
-        SackBlocks::Two(a, b) => {
-            write_sack_start(octets, at, 18);
-            write_two_blocks(octets, at + 4, a, b);
-        }
-        SackBlocks::Three(a, b, c) => {
-            write_sack_start(octets, at, 26);
-            write_two_blocks(octets, at + 4, a, b);
-            write_block(octets, at + 20, c);
-        }
-        SackBlocks::Four(a, b, c, d) => {
-            write_sack_start(octets, at, 34);
-            write_two_blocks(octets, at + 4, a, b);
-            write_two_blocks(octets, at + 20, c, d);
-        }
+    out.put(&[NOP, NOP, Kind::Sack as u8, (8 * blocks.len() + 2) as u8]);
+    for block in blocks {
+        out.put_pair(block.left.0, block.right.0);
     }
 }
 
 // The options after the fixed header, with those of the blocks that fit.
-pub fn write_options(octets: &mut [u8], options: Options, blocks: SackBlocks)
-    requires { block_list blocks ≡ fitting options }
-    ensures { octets.new ≡ sets octets.old 20 (options_written options) }
+pub fn write_options(octets: &mut [u8], options: &Options, blocks: &[Range])
+    requires fit { blocks.now ≡ fitting options.now }
+    requires room { 20 + length (options_written options.now) ≤ length octets.old }
+    ensures { octets.new ≡ sets octets.old 20 (options_written options.now) }
 {
-    let mss = options.mss;
-    let timestamps = options.timestamps;
-    let scale = options.scale;
-    let second = write_mss(octets, 20, mss);
-    let third = write_timestamps(octets, second, options.permitted, timestamps);
-    let fourth = write_scale(octets, third, scale);
-    write_sack(octets, fourth, blocks);
+    let mut out = Cursor {
+        octets,
+        at: FIXED_HEADER,
+    };
+    write_mss(&mut out, options.mss);
+    write_timestamps(&mut out, options.permitted, options.timestamps);
+    write_scale(&mut out, options.scale);
+    write_sack(&mut out, blocks);
 }

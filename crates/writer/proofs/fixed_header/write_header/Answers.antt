@@ -8,13 +8,13 @@ pub returns : goal.returns
 unfolding header_written big_endian
 returns c =
     rw (
-      c.write_u32-3.ensures,
-      c.write_u16-3.ensures,
+      c.write-6.ensures,
+      c.write-5.ensures,
       c.write_u8-2.ensures,
       c.write_u8.ensures,
-      c.write_u32-2.ensures,
-      c.write_u32.ensures,
-      c.write_u16-2.ensures,
-      c.write_u16.ensures,
-      sym c.flags_octet-flags.ensures,
+      c.write-4.ensures,
+      c.write-3.ensures,
+      c.write-2.ensures,
+      c.write.ensures,
+      sym c.flags_octet.ensures,
     )

@@ -1,20 +1,26 @@
 -- `option_list::write_mss` meets its contract. Assumes nothing.
+use mathlib.Core.List.{List, [], ◌∷◌}
+use mathlib.Core.Path.{◌∙◌, ap, subst}
+use Prim.Native.Nat.{ℕ}
 use native.Mathlib.Omega.{arith}
-use mathlib.Core.List.{[], ◌∷◌}
-use mathlib.Core.Path.{refl}
+use lib.ListN.{get_or}
 use Rattle.octets.specs.Octets.{big_endian}
-use Rattle.octets.proofs.Stores.{sets_then}
+use Rattle.writer.specs.Cursor.{Writes}
 use Rattle.writer.specs.Writing.{mss_written}
+use Rattle.writer.proofs.Runs.{octets_of_u16, writes_none}
 use Rattle.writer.proofs.option_list.write_mss.Goals as goal
 
-pub returns-in-Absent : goal.returns-in-Absent
-unfolding mss_written
-returns-in-Absent c = rw c.in-Absent.is (refl, omega arith)
-
-pub returns-in-Octets : goal.returns-in-Octets
+pub put-requires : goal.put-requires
 unfolding mss_written big_endian
-returns-in-Octets c =
-    let a = c.args in
-    let l = a.octets.now in
-    let start = sets_then l a.at (2 ∷ []) (4 ∷ []) c.write_u8.ensures c.write_u8-in-Octets.ensures in
-    rw c.in-Octets.is (sets_then l a.at (2 ∷ 4 ∷ []) (big_endian 2 c.in-Octets.n) start c.write_u16.ensures, refl)
+put-requires c = let size = rw c.in-Some.is at c.requires in record { room = size.room }
+
+pub returns-in-Some : goal.returns-in-Some
+unfolding mss_written
+returns-in-Some c =
+    let run = ap (λ (l : List ℕ). 2 ∷ 4 ∷ get_or l 0 0 ∷ get_or l 1 0 ∷ []) c.to_be_bytes.ensures
+    ∙ ap (λ (l : List ℕ). 2 ∷ 4 ∷ l) (octets_of_u16 c.in-Some.n (omega arith)) in
+    rw c.in-Some.is (subst (Writes _ _) run c.put.ensures)
+
+pub returns-in_default : goal.returns-in_default
+unfolding mss_written
+returns-in_default c = rw c.in_default.is (writes_none _)

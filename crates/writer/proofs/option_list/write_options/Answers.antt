@@ -1,37 +1,35 @@
 -- `option_list::write_options` meets its contract. Assumes nothing.
-use native.Mathlib.Omega.{arith}
-use Rattle.writer.proofs.Lengths.{aligned_mss, aligned_scale, aligned_timestamps}
-use Rattle.writer.proofs.Storing.{options_stored}
+use mathlib.Core.Path.{subst, sym}
+use Rattle.std.proofs.Common.{rules}
+use Rattle.writer.specs.Cursor.{HasRoom, Writes}
+use Rattle.writer.proofs.Lengths.{few_fit}
+use Rattle.writer.proofs.OptionOctets.{in_order}
+use Rattle.writer.proofs.Runs.{room_first, room_then, writes_then}
 use Rattle.writer.proofs.option_list.write_options.Goals as goal
 
-pub write_timestamps-third-requires : goal.write_timestamps-third-requires
-write_timestamps-third-requires c = omega (arith, c.write_mss-second.ensures.1, (aligned_mss c.args.options.mss).most)
+pub write_mss-requires : goal.write_mss-requires
+write_mss-requires c = room_first _ _ (subst (HasRoom _) (in_order c.args.options.now) (record { room = c.requires.room }))
 
-pub write_scale-fourth-requires : goal.write_scale-fourth-requires
-write_scale-fourth-requires c =
-    let o = c.args.options in
-    omega (
-      arith,
-      c.write_mss-second.ensures.1,
-      c.write_timestamps-third.ensures.1,
-      (aligned_mss o.mss).most,
-      (aligned_timestamps o.permitted o.timestamps).most,
-    )
+pub write_timestamps-requires : goal.write_timestamps-requires
+write_timestamps-requires c =
+    room_first _ _ (room_then c.write_mss.ensures _ (subst (HasRoom _) (in_order c.args.options.now) (record { room = c.requires.room })))
 
-pub write_sack-requires : goal.write_sack-requires
-write_sack-requires c =
-    let o = c.args.options in
-    omega (
-      arith,
-      c.write_mss-second.ensures.1,
-      c.write_timestamps-third.ensures.1,
-      c.write_scale-fourth.ensures.1,
-      (aligned_mss o.mss).most,
-      (aligned_timestamps o.permitted o.timestamps).most,
-      (aligned_scale o.scale).most,
-    )
+pub write_scale-requires : goal.write_scale-requires
+write_scale-requires c =
+    room_first _ _ (room_then c.write_timestamps.ensures _ (room_then c.write_mss.ensures _
+    (subst (HasRoom _) (in_order c.args.options.now) (record { room = c.requires.room }))))
+
+pub write_sack-requires-clause-few : goal.write_sack-requires-clause-few
+write_sack-requires-clause-few c = rw c.requires.fit (few_fit c.args.options.now)
+
+pub write_sack-requires-clause-room : goal.write_sack-requires-clause-room
+write_sack-requires-clause-room c =
+    rw c.requires.fit (room_then c.write_scale.ensures _ (room_then c.write_timestamps.ensures _ (room_then c.write_mss.ensures _
+    (subst (HasRoom _) (in_order c.args.options.now) (record { room = c.requires.room })))))
 
 pub returns : goal.returns
 returns c =
-    options_stored c.args.options c.args.octets.now c.write_mss-second.result c.write_timestamps-third.result c.write_scale-fourth.result _
-    c.requires c.write_mss-second.ensures c.write_timestamps-third.ensures c.write_scale-fourth.ensures c.write_sack.ensures
+    let sack = rw c.requires.fit at c.write_sack.ensures in
+    let all = writes_then c.write_mss.ensures (writes_then c.write_timestamps.ensures (writes_then c.write_scale.ensures sack)) in
+    let options = subst (Writes _ _) (sym (in_order c.args.options.now)) all in
+    search rules

@@ -1,35 +1,46 @@
 -- `option_list::write_sack` meets its contract. Assumes nothing.
-use mathlib.Core.List.{[], ◌∷◌}
-use Rattle.writer.specs.Writing.{sack_written}
-use Rattle.writer.proofs.Storing.{blocks_stored, sack_stored}
+use mathlib.Core.Path.{sym, subst, ◌≡◌}
+use Prim.Native.Nat.{◌<◌}
+use native.Mathlib.Omega.{arith}
+use lib.ListN.{length}
+use lib.Seq.{take_all}
+use Rattle.std.proofs.lemmas.Bool.Decides.{nat_tests}
+use Rattle.writer.specs.Cursor.{HasRoom, Writes}
+use Rattle.writer.specs.Writing.{blocks_written}
+use Rattle.writer.proofs.Lengths.{no_sack}
+use Rattle.writer.proofs.OptionOctets.{sack_parts}
+use Rattle.writer.proofs.Runs.{blocks_left, blocks_more, room_first, room_then, writes_none, writes_then}
 use Rattle.writer.proofs.option_list.write_sack.Goals as goal
 
-pub returns-in-Absent : goal.returns-in-Absent
-unfolding sack_written
-returns-in-Absent c = rw c.in-Absent.is
+pub returns-then-is_empty : goal.returns-then-is_empty
+returns-then-is_empty c =
+    let none : length c.args.blocks.now ≡ 0 = grind (arith, nat_tests) in
+    subst (Writes _ _) (sym (no_sack _ none)) (writes_none _)
 
-pub returns-in-One : goal.returns-in-One
-returns-in-One c =
-    let v = c.in-One in
-    let a = c.args in
-    rw v.is (sack_stored a.octets.now a.at v.a [] c.write_sack_start.ensures c.write_block.ensures)
+pub put-requires : goal.put-requires
+put-requires c =
+    let some : 0 < length c.args.blocks.now = grind (arith, nat_tests) in
+    room_first _ _ (subst (HasRoom _) (sack_parts _ some) c.requires.room)
 
-pub returns-in-Two : goal.returns-in-Two
-returns-in-Two c =
-    let v = c.in-Two in
-    let a = c.args in
-    rw v.is (sack_stored a.octets.now a.at v.a (v.b ∷ []) c.write_sack_start-in-Two.ensures c.write_two_blocks.ensures)
+pub loop-block-init : goal.loop-block-init
+unfolding blocks_written
+loop-block-init c =
+    let some : 0 < length c.args.blocks.now = grind (arith, nat_tests) in
+    (writes_none _, room_then c.put.ensures _ (subst (HasRoom _) (sack_parts _ some) c.requires.room))
 
-pub returns-in-Three : goal.returns-in-Three
-returns-in-Three c =
-    let v = c.in-Three in
-    let a = c.args in
-    let blocks = blocks_stored _ a.at v.a v.b (v.c ∷ []) c.write_two_blocks-in-Three.ensures c.write_block-in-Three.ensures in
-    rw v.is (sack_stored a.octets.now a.at v.a (v.b ∷ v.c ∷ []) c.write_sack_start-in-Three.ensures blocks)
+pub put_pair-requires : goal.put_pair-requires
+put_pair-requires c =
+    let i = c.loop-block.block-index in
+    room_first _ _ (subst (HasRoom _) (blocks_left c.args.blocks.now i _ c.loop-block-test.true) c.loop-block.invariant.1)
 
-pub returns-in-Four : goal.returns-in-Four
-returns-in-Four c =
-    let v = c.in-Four in
-    let a = c.args in
-    let blocks = blocks_stored _ a.at v.a v.b (v.c ∷ v.d ∷ []) c.write_two_blocks-in-Four.ensures c.write_two_blocks-in-Four-2.ensures in
-    rw v.is (sack_stored a.octets.now a.at v.a (v.b ∷ v.c ∷ v.d ∷ []) c.write_sack_start-in-Four.ensures blocks)
+pub loop-block-preserved : goal.loop-block-preserved
+loop-block-preserved c =
+    let i = c.loop-block.block-index in (
+      subst (Writes _ _) (sym (blocks_more c.args.blocks.now i _ c.loop-block-test.true)) (writes_then c.loop-block.invariant.0 c.put_pair.ensures),
+      room_then c.put_pair.ensures _ (subst (HasRoom _) (blocks_left c.args.blocks.now i _ c.loop-block-test.true) c.loop-block.invariant.1),
+    )
+
+pub returns : goal.returns
+returns c =
+    let some : 0 < length c.args.blocks.now = grind (arith, nat_tests) in
+    subst (Writes _ _) (sym (sack_parts _ some)) (writes_then c.put.ensures (rw (take_all c.loop-block.block-index c.args.blocks.now c.loop-block-test.false) at c.loop-block.invariant.0))

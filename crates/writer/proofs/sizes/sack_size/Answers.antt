@@ -1,24 +1,18 @@
 -- `sizes::sack_size` meets its contract. Assumes nothing.
-use Rattle.octets.specs.Octets.{big_endian}
-use Rattle.writer.specs.Writing.{blocks_written, sack_written}
+use mathlib.Core.Path.{◌≡◌, sym, ap}
+use Prim.Native.Nat.{◌<◌}
+use native.Mathlib.Omega.{arith}
+use lib.ListN.{length}
+use Rattle.std.proofs.lemmas.Bool.Decides.{nat_tests}
+use Rattle.writer.proofs.Lengths.{length_sack, no_sack}
 use Rattle.writer.proofs.sizes.sack_size.Goals as goal
 
-pub returns-in-Absent : goal.returns-in-Absent
-unfolding sack_written
-returns-in-Absent c = rw c.in-Absent.is
+pub returns-then-is_empty : goal.returns-then-is_empty
+returns-then-is_empty c =
+    let none : length c.args.blocks.now ≡ 0 = grind (arith, nat_tests) in
+    sym (ap length (no_sack _ none))
 
-pub returns-in-One : goal.returns-in-One
-unfolding sack_written blocks_written big_endian
-returns-in-One c = rw c.in-One.is
-
-pub returns-in-Two : goal.returns-in-Two
-unfolding sack_written blocks_written big_endian
-returns-in-Two c = rw c.in-Two.is
-
-pub returns-in-Three : goal.returns-in-Three
-unfolding sack_written blocks_written big_endian
-returns-in-Three c = rw c.in-Three.is
-
-pub returns-in-Four : goal.returns-in-Four
-unfolding sack_written blocks_written big_endian
-returns-in-Four c = rw c.in-Four.is
+pub returns : goal.returns
+returns c =
+    let some : 0 < length c.args.blocks.now = grind (arith, nat_tests) in
+    sym (length_sack _ some)

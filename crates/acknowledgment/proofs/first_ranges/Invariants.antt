@@ -1,0 +1,7 @@
+-- The ranges that were passed are the blocks, at most four. Assumes nothing.
+use Rattle.std.proofs.Common.{◌≡◌, take}
+use mathlib.Core.List.{map}
+use Rattle.acknowledgment.proofs.first_ranges.Given as goal
+
+abbrev pub invariant-loop-range : goal.invariant-loop-range
+invariant-loop-range l = l.blocks ≡ take 4 (map (λ r. r.now) l.yielded)
