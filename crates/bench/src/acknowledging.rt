@@ -1,58 +1,32 @@
-// Calls that write an acknowledgment: 8.
-ghost use Rattle.std.specs.Prelude.{◌≤◌, length};
-ghost use Rattle.connection.specs.Record.{Sound};
-
+// Calls that write an acknowledgment.
 use crate::rounds::Made;
-use crate::{stream, sums};
-use acknowledgment::AckOutcome;
-use connection::Connection;
+use crate::stream::Calls;
+use octets::Number;
+use refusals::Numbered;
 use writer::Ports;
 
-// Writes the acknowledgments from one place of the stream up to another, each into its call's own buffer.
-pub fn make(connection: Connection, octets: &mut [u8], from: usize, end: usize) -> Made
-    requires sound { Sound connection }
-    requires end_in_bounds { end ≤ length octets.old }
-    ensures { Sound result.connection }
-{
-    let mut k = connection;
-    let mut sum = 0;
-    let mut at = from;
-    while at < end {
-        let next = stream::next(octets, at, end);
-        let made = make_one(k, octets, at, next);
-        sum = sums::add(sum, made.sum);
-        k = made.connection;
-        at = next;
-    }
-    Made { connection: k, sum }
-}
+// How many octets of a call stand before its buffer.
+const FIXED: usize = 17;
 
-fn make_one(k: Connection, octets: &mut [u8], at: usize, next: usize) -> Made
-    requires sound { Sound k }
-    requires at_le_next { (at ≤ next) × (next ≤ length octets.old) }
-    ensures { Sound result.connection }
-{
-    let ports = ports(stream::part(octets, at, 5, next));
-    let clock = stream::read_u64(octets, at, 9, next);
-    let answer = acknowledgment::write(k, ports, clock, stream::part_mut(octets, at, 17, next));
-    let outcome = answer.outcome;
-    let connection = answer.connection;
-    Made {
-        connection,
-        sum: length_or_number(outcome),
+// Writes the acknowledgments, each into its call's own buffer.
+pub fn make(start: Made, calls: &mut [u8]) -> Made {
+    let mut made = start;
+    for call in Calls(calls) {
+        // A call that is cut short has no fields, and no room for an acknowledgment.
+        let fields = call.get(..FIXED).unwrap_or(&[]);
+        let ports = Ports {
+            source: u16::read(fields, 5),
+            destination: u16::read(fields, 7),
+        };
+        let clock = u64::read(fields, 9);
+        let buffer = call.get_mut(FIXED..).unwrap_or(&mut []);
+        match acknowledgment::write(made.connection, ports, clock, buffer) {
+            Ok(written) => {
+                made.add(written.length as u64);
+                made.connection = written.connection;
+            }
+            Err(why) => made.add(u64::from(why.number())),
+        }
     }
-}
-
-fn ports(body: &[u8]) -> Ports {
-    Ports {
-        source: octets::read_u16(body, 0),
-        destination: octets::read_u16(body, 2),
-    }
-}
-
-fn length_or_number(outcome: AckOutcome) -> u64 {
-    match outcome {
-        AckOutcome::Written(length) => length as u64,
-        AckOutcome::Refused(why) => why.number() as u64,
-    }
+    made
 }

@@ -9,56 +9,44 @@ mod segments;
 mod stream;
 mod sums;
 
-ghost use Rattle.std.specs.Prelude.{◌≤◌, length};
-ghost use Rattle.connection.specs.Record.{Sound};
-
-use connection::Connection;
+use octets::Number;
+use rounds::Made;
 use std::io;
 use std::io::Read;
-use stream::Extent;
 
 fn main(rt: HostRuntime) -> io::Result<()> {
     let mut input = rt.stdin();
-    let mut octets = stream::space();
-    run(&rt, &mut input, &mut octets)
+    let mut space = stream::space();
+    run(&rt, &mut input, &mut space)
 }
 
 // Loads a stream, prepares its record, then answers the orders.
-fn run(rt: &impl Print, input: &mut impl Read, octets: &mut [u8]) -> io::Result<()> {
-    let extent = stream::load(input, octets)?;
-    let prepared = preparing::prepare(octets, extent.prepared);
-    if extent.bad || prepared.bad {
+fn run(rt: &impl Print, input: &mut impl Read, space: &mut [u8]) -> io::Result<()> {
+    let Some(lengths) = stream::load(input, space)? else {
         return println!(rt; "bad");
-    }
-    let connection = prepared.connection;
-    answer_orders(rt, input, connection, octets, extent)
+    };
+    let (prepared, later) = space.split_at_mut(lengths.prepared);
+    let Some(start) = preparing::prepare(prepared) else {
+        return println!(rt; "bad");
+    };
+    answer_orders(rt, input, start, &mut later[..lengths.measured])
 }
 
-// A proved loop has to end, so it counts down from a number that no input uses up.
+// A proved loop has to end, so it takes more turns than any input has orders.
 fn answer_orders(
     rt: &impl Print,
     input: &mut impl Read,
-    connection: Connection,
-    octets: &mut [u8],
-    extent: Extent,
-) -> io::Result<()>
-    requires sound { Sound connection }
-    requires end_in_bounds { extent.end ≤ length octets.old }
-{
-    let mut orders = u64::MAX;
-    while 0 < orders {
-        let mut order = [0u8; 4];
-        if stream::read_full(input, &mut order)? < 4 {
+    start: Made,
+    calls: &mut [u8],
+) -> io::Result<()> {
+    for _ in 0..u64::MAX {
+        let mut order = [0; 4];
+        if !stream::fill(input, &mut order)? {
             return Ok(());
         }
-        let count = octets::read_u32(&order, 0);
-        write_line(rt, rounds::sum_of(connection, octets, extent, count))?;
-        orders -= 1;
+        let sum = rounds::sum_of(start, calls, u32::read(&order, 0));
+        // Whoever gave the order waits for its line, which is written at once.
+        println!(rt; "{sum}")?;
     }
     Ok(())
-}
-
-// Whoever gave the order waits for its line, which is written at once.
-fn write_line(rt: &impl Print, sum: u64) -> io::Result<()> {
-    println!(rt; "{sum}")
 }

@@ -1,47 +1,55 @@
 // Rounds: the measured calls of a stream, made again and again from the record as prepared.
-ghost use Rattle.std.specs.Prelude.{◌≤◌, length};
-ghost use Rattle.connection.specs.Record.{Sound};
-
-use crate::stream::Extent;
+use crate::stream::Kind;
 use crate::{acknowledging, segments, sums};
 use connection::Connection;
+use std::marker::Model;
 
-// The record after some calls, and the sum of their answers.
+// A sound record, and the sum of what the calls on it answered.
 #[derive(Clone, Copy)]
 pub struct Made {
     pub connection: Connection,
     pub sum: u64,
 }
 
+impl Model for Made {
+    ghost use Rattle.std.specs.Prelude.{ℕ};
+    ghost use Rattle.connection.specs.declared.Connection.{Connection};
+    ghost use Rattle.connection.specs.Record.{Sound};
+
+    ghost Value = { Connection × ℕ };
+
+    ghost view = { λ made. (made.connection, made.sum) };
+
+    ghost inverse = { λ value. record { connection = value.0; sum = value.1 } };
+
+    ghost invariant = { λ made. Sound made.connection };
+}
+
+impl Made {
+    pub fn add(&mut self, answer: u64) {
+        self.sum = self.sum.wrapping_add(answer);
+    }
+
+    fn with_record(self) -> u64 {
+        self.sum.wrapping_add(sums::record(&self.connection))
+    }
+}
+
 // The sum of so many rounds.
-pub fn sum_of(connection: Connection, octets: &mut [u8], extent: Extent, rounds: u32) -> u64
-    requires sound { Sound connection }
-    requires end_in_bounds { extent.end ≤ length octets.old }
-{
-    let mut sum = 0;
-    let mut left = rounds;
-    while 0 < left {
-        sum = sums::add(sum, round(connection, octets, extent));
-        left -= 1;
+pub fn sum_of(start: Made, calls: &mut [u8], rounds: u32) -> u64 {
+    let mut sum: u64 = 0;
+    for _ in 0..rounds {
+        sum = sum.wrapping_add(round(start, calls));
     }
     sum
 }
 
 // The sum of one round; its first call says of which kind all are.
-fn round(connection: Connection, octets: &mut [u8], extent: Extent) -> u64
-    requires sound { Sound connection }
-    requires end_in_bounds { extent.end ≤ length octets.old }
-{
-    let from = extent.prepared;
-    let end = extent.end;
-    match octets::read_u8(octets, from) {
-        1 => segments::make(connection, octets, from, end, 1).sum,
-        5 => with_record(segments::make(connection, octets, from, end, 5)),
-        8 => with_record(acknowledging::make(connection, octets, from, end)),
+fn round(start: Made, calls: &mut [u8]) -> u64 {
+    match Kind::of(calls) {
+        Some(Kind::Read) => segments::make(start, calls, Kind::Read).sum,
+        Some(Kind::Arrive) => segments::make(start, calls, Kind::Arrive).with_record(),
+        Some(Kind::Acknowledge) => acknowledging::make(start, calls).with_record(),
         _ => 0,
     }
-}
-
-fn with_record(made: Made) -> u64 {
-    sums::add(made.sum, sums::record(made.connection))
 }

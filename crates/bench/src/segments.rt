@@ -1,73 +1,55 @@
-// Calls that bring a segment: 1 read, 4 open, 5 arrive. All of them read it at one place, so that the compiler puts the reading, and
-// what is done with it, into the loop.
-ghost use Rattle.std.specs.Prelude.{◌≤◌, length};
+// Calls that bring a segment: read, open, arrive. All of them read it at one place, so that the compiler puts the reading, and what is done
+// with it, into the loop.
 ghost use Rattle.connection.specs.Record.{Sound};
 
 use crate::rounds::Made;
-use crate::{stream, sums};
+use crate::stream::{Calls, Kind};
+use crate::sums;
 use connection::Connection;
-use segment::{Reading, Segment};
+use octets::Number;
+use refusals::Numbered;
+use segment::Segment;
 
-// Makes the calls from one place of the stream up to another, all of one kind, each on the record that the one before left.
-pub fn make(connection: Connection, octets: &[u8], from: usize, end: usize, call: u8) -> Made
-    requires sound { Sound connection }
-    requires end_in_bounds { end ≤ length octets.now }
-    ensures { Sound result.connection }
-{
-    let skip = fixed_octets(call);
-    let mut k = connection;
-    let mut sum = 0;
-    let mut at = from;
-    while at < end {
-        let next = stream::next(octets, at, end);
-        let reading = segment::read(stream::part(octets, at, skip, next));
-        match reading {
-            Reading::Refused(why, steps) => {
-                sum = sums::add(sum, sums::refusal(why, own_steps(call, steps)));
-            }
-            Reading::Segment(s, steps) => match call {
-                1 => {
-                    sum = sums::add(sum, sums::segment(s, steps));
+// Makes the calls, all of one kind, each on the record that the one before left.
+pub fn make(start: Made, calls: &mut [u8], kind: Kind) -> Made {
+    let mut made = start;
+    let skip = fixed_octets(kind);
+    for call in Calls(calls) {
+        let reading = segment::read(call.get(skip..).unwrap_or(&[]));
+        match (reading.outcome, kind) {
+            (Err(why), Kind::Read) => made.add(sums::refusal(why, reading.steps)),
+            // An arrival does not give the steps.
+            (Err(why), _) => made.add(sums::refusal(why, 0)),
+            (Ok(s), Kind::Read) => made.add(sums::segment(&s, reading.steps)),
+            (Ok(syn), Kind::Open) => made.connection = open(call, syn),
+            (Ok(s), _) => match made.connection.arrive_read(u64::read(call, 5), s) {
+                Ok(arrival) => {
+                    made.add(sums::arrival(&arrival));
+                    made.connection = arrival.connection;
                 }
-                4 => {
-                    k = open(octets, at, next, s);
-                }
-                _ => {
-                    let arrival = k.arrive_read(stream::read_u64(octets, at, 5, next), s);
-                    sum = sums::add(sum, sums::arrival(arrival));
-                    k = arrival.connection;
-                }
+                Err(why) => made.add(u64::from(why.number())),
             },
         }
-        at = next;
     }
-    Made { connection: k, sum }
-}
-
-// An arrival does not give the steps.
-fn own_steps(call: u8, steps: usize) -> usize {
-    match call {
-        1 => steps,
-        _ => 0,
-    }
+    made
 }
 
 // How many octets of a call stand before its segment.
-fn fixed_octets(call: u8) -> usize {
-    match call {
-        1 => 5,
-        4 => 27,
+fn fixed_octets(kind: Kind) -> usize {
+    match kind {
+        Kind::Read => 5,
+        Kind::Open => 27,
         _ => 13,
     }
 }
 
 // The record that is opened, a blank one where the opening is refused.
-fn open(octets: &[u8], at: usize, next: usize, syn: Segment) -> Connection
-    requires { (at ≤ next) × (next ≤ length octets.now) }
+fn open(call: &[u8], syn: Segment) -> Connection
     ensures { Sound result }
 {
-    let clock = stream::read_u64(octets, at, 19, next);
-    let setup = script::setup(stream::part(octets, at, 5, next));
-    let answer = Connection::open_read(setup, clock, syn);
-    answer.connection
+    let setup = script::setup(call.get(5..).unwrap_or(&[]));
+    match Connection::open_read(setup, u64::read(call, 19), syn) {
+        Ok(opened) => opened.connection,
+        Err(_) => Connection::blank(),
+    }
 }

@@ -37,7 +37,7 @@ unfolding send_fields scaling segment at own opened permitted option_octets dist
     send.updates_window send.windowed send.taken is_not_syn is_wrong_ack opening opening_from record_from record_with timestamps.opened
     timestamps.is_old timestamps.is_missing rows fed_by timestamps.is_recorded record_after timestamps.taken arriving arriving_read judged settled taken_by
     writing.header_written writing.mss_written writing.timestamps_written writing.scale_written writing.blocks_written writing.sack_written
-    writing.others_written writing.fitting writing.options_written writing.written writing.blocks_of_list writing.writing ack.own_timestamps
+    writing.others_written writing.fitting writing.options_written writing.written writing.writing ack.own_timestamps
     ack.own_blocks ack.own_options ack.acknowledging
 after lefts wl1 =
     cases.record_holding 5500 65035 500 lefts wl1 (record { active = false; recent = record { 0 = 0 }; since = 0; offset = 0 })

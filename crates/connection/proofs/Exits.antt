@@ -2,13 +2,16 @@
 use mathlib.Core.Bool.{true, false}
 use mathlib.Core.List.{List}
 use mathlib.Core.Option.{Option, none, some, Option-elim}
-use mathlib.Core.Path.{◌≡◌}
+use mathlib.Core.Path.{◌≡◌, sym, ap, ◌∙◌}
 use Prim.Native.Nat.{ℕ}
-use Rattle.std.specs.Prelude.{Ok, Err}
+use Rattle.std.specs.Prelude.{Result, Ok, Err}
 use Rattle.field_station.specs.Demands.{lack_value}
 use Rattle.field_station.specs.declared.Lack.{Lack}
 use Rattle.offers.specs.declared.Offers.{Offers}
-use Rattle.segment.specs.Reading.{reading, shown_answer}
+use Rattle.segment.proofs.Readable.{answer_is}
+use Rattle.segment.specs.Reading as segment
+use Rattle.segment.specs.Reading.{reading, reported, shown_answer}
+use Rattle.segment.specs.declared.Reading.{Reading}
 use Rattle.segment.specs.declared.Refusal.{Refusal}
 use Rattle.segment.specs.declared.Segment.{Segment}
 use Rattle.connection.specs.declared.ArriveRefusal.{ArriveRefusal}
@@ -20,6 +23,11 @@ use Rattle.connection.specs.declared.Setup.{Setup}
 use Rattle.connection.specs.Opening.{exceeds_limits, opening, opening_from, refused_opening, shown_open}
 use Rattle.connection.specs.Profile.{as_opened, lack_in, lacking, profile_opening, shown_profile, under_profile}
 use Rattle.connection.specs.Arriving.{arriving, arriving_read, shown}
+
+-- what reading answered
+pub read_shown : (octets : List ℕ) (r : Reading) (outcome : Result Segment Refusal) → segment.shown r ≡ reported octets → r.outcome ≡ outcome
+    → shown_answer outcome ≡ reading octets
+read_shown octets r outcome is was = ap shown_answer (sym was) ∙ answer_is is
 
 -- octets that do not read
 module _ (octets : List ℕ) (why : Refusal) (is : shown_answer (Err why) ≡ reading octets) where

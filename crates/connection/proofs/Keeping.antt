@@ -1,5 +1,4 @@
 -- Every operation gives back a sound record. Assumes nothing.
-use mathlib.Core.List.{List}
 use Prim.Native.Nat.{ℕ}
 use native.Mathlib.Omega.{arith}
 use Rattle.serial.specs.Serial.{moved_by}
@@ -13,12 +12,10 @@ use Rattle.send.proofs.Sound as send_side
 use Rattle.connection.specs.declared.Connection.{Connection}
 use Rattle.connection.specs.declared.Setup.{Setup}
 use Rattle.connection.specs.Record.{Sound, blank}
-use Rattle.connection.specs.Opening.{OpeningAnswer, ack_fields_of, record_from, record_with}
-use Rattle.connection.specs.Profile.{Profiled}
+use Rattle.connection.specs.Opening.{ack_fields_of, record_from, record_with}
 use Rattle.connection.specs.Taking.{fed_by, record_after}
-use Rattle.connection.specs.Arriving.{Arrival, arriving, arriving_read}
-use Rattle.connection.specs.Operations.{CallAnswer, acknowledged, expired, sent, window_opened}
-use Rattle.connection.specs.Calls.{Incoming, Way, arrived, opened_under, read, unread}
+use Rattle.connection.specs.Operations.{acknowledged, expired, sent, window_opened}
+use Rattle.connection.specs.Calls.{Incoming, Way, arrived, opened_under}
 use Rattle.connection.proofs.Incoming.{arrived_cases, way_cases}
 
 -- opening
@@ -29,12 +26,6 @@ blank_sound = record {
   send_sound = record { shift_most = omega arith; window_most = omega arith; outstanding_most = omega (arith, offset_self 0) };
   timer_sound = sound_new;
 }
-
-abbrev pub SoundOpening : OpeningAnswer → Type 0
-SoundOpening a = Sound a.connection
-
-abbrev pub SoundProfiled : Profiled → Type 0
-SoundProfiled a = Sound a.opening.connection
 
 module _ (own : Setup) (clock : ℕ) where
   pub record_sound : (syn : Segment) → Sound (record_from own clock syn)
@@ -48,15 +39,9 @@ module _ (own : Setup) (clock : ℕ) where
   pub opened_sound : (way : Way) (i : Incoming) → Sound (opened_under way own clock i).connection
   opened_sound way i = way_cases Sound blank_sound own clock way i (λ syn _. record_sound syn)
 
-abbrev pub SoundArrival : Arrival → Type 0
-SoundArrival a = Sound a.connection
-
-abbrev pub SoundAnswer : CallAnswer → Type 0
-SoundAnswer a = Sound a.connection
-
 -- an operation on a sound record
 module _ (k : Connection) (h : Sound k) where
-  record_after_sound : (clock : ℕ) (s : Segment) → Sound (record_after k clock s)
+  pub record_after_sound : (clock : ℕ) (s : Segment) → Sound (record_after k clock s)
   unfolding record_after
   record_after_sound clock s = record {
     receive_sound = receive_side.taken_sound k.receive s.seq.0 s.len h.receive_sound;
@@ -66,12 +51,6 @@ module _ (k : Connection) (h : Sound k) where
 
   pub arrived_sound : (clock : ℕ) (i : Incoming) → Sound (arrived k clock i).connection
   arrived_sound clock i = arrived_cases Sound k h clock i (λ s _. record_after_sound clock s)
-
-  pub arriving_read_sound : (clock : ℕ) (s : Segment) → Sound (arriving_read k clock s).connection
-  arriving_read_sound clock s = arrived_sound clock (read s)
-
-  pub arriving_sound : (clock : ℕ) (octets : List ℕ) → Sound (arriving k clock octets).connection
-  arriving_sound clock octets = arrived_sound clock (unread octets)
 
   pub sent_sound : (n : ℕ) → Sound (sent k n).connection
   unfolding sent

@@ -1,8 +1,7 @@
 -- Document 01's number, of 17 and 31 document 02's, what is done, and what is passed on of reading the options, for each case of the enums.
 use Rattle.std.proofs.Math.Option.{Option, none}
-use Rattle.std.proofs.Common.{arith}
-use Rattle.std.specs.Prelude.{ℕ, ◌<◌}
-use Rattle.segment.specs.Reading.{fault_place, number_of, number_positive}
+use Rattle.std.specs.Prelude.{ℕ}
+use Rattle.segment.specs.Reading.{fault_place, number_of}
 use Rattle.connection.specs.declared.ArriveRefusal.{ArriveRefusal}
 use Rattle.connection.specs.declared.OpenRefusal.{OpenRefusal}
 use Rattle.connection.specs.declared.ProfileRefusal.{ProfileRefusal}
@@ -60,18 +59,3 @@ arrive_refusal_number ArriveRefusal.ClockBack = 8
 abbrev pub arrive_refusal_place : ArriveRefusal → Option ℕ
 arrive_refusal_place (ArriveRefusal.Segment why) = fault_place why
 arrive_refusal_place ArriveRefusal.ClockBack = none
-
--- no refusal is 0
-pub open_refusal_positive : (why : OpenRefusal) → 0 < open_refusal_number why
-open_refusal_positive OpenRefusal.ExceededLimits = omega arith
-open_refusal_positive (OpenRefusal.Segment why) = number_positive why
-open_refusal_positive OpenRefusal.NotSyn = omega arith
-open_refusal_positive OpenRefusal.WrongAck = omega arith
-
-pub profile_refusal_positive : (why : ProfileRefusal) → 0 < profile_refusal_number why
-profile_refusal_positive (ProfileRefusal.Opening why) = open_refusal_positive why
-profile_refusal_positive (ProfileRefusal.Lacking lack) = omega arith
-
-pub arrive_refusal_positive : (why : ArriveRefusal) → 0 < arrive_refusal_number why
-arrive_refusal_positive (ArriveRefusal.Segment why) = number_positive why
-arrive_refusal_positive ArriveRefusal.ClockBack = omega arith

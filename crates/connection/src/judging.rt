@@ -15,7 +15,7 @@ impl Connection {
         requires { Sound self }
         ensures { verdict_of result ≡ decided (rows self clock s.now) }
     {
-        let tsval = tsval_of(s.options.timestamps);
+        let tsval = tsval_of(s);
         if self.timestamping.is_missing(tsval, s.flags.rst) {
             return Verdict::Silent(Reason::TimestampMissing);
         }

@@ -9,11 +9,12 @@ mod profile;
 mod taking;
 
 ghost use Rattle.std.specs.Prelude.{◌≡◌, IfOk, Ok};
+ghost use Rattle.std.proofs.Common.{rules};
 ghost use Rattle.std.proofs.Math.Option.{none, some};
 ghost use Rattle.connection.specs.declared.ArriveRefusal.{ArriveRefusal};
 ghost use Rattle.connection.specs.declared.OpenRefusal.{OpenRefusal};
 ghost use Rattle.connection.specs.declared.ProfileRefusal.{ProfileRefusal};
-ghost use Rattle.connection.specs.Numbers.{arrive_refusal_number, arrive_refusal_positive, open_refusal_number, open_refusal_positive, profile_refusal_number, profile_refusal_positive, reason_number, verdict_of};
+ghost use Rattle.connection.specs.Numbers.{arrive_refusal_number, open_refusal_number, profile_refusal_number, reason_number, verdict_of};
 ghost use Rattle.connection.specs.Record.{Sound, blank};
 ghost use Rattle.connection.specs.Opening.{opening, opening_read, shown_open};
 ghost use Rattle.connection.specs.Profile.{profile_opening, profile_opening_read, shown_profile};
@@ -30,8 +31,7 @@ use send::{Send, SentRefused};
 use serial::{Seq, Stamp};
 use timestamps::Timestamping;
 
-// That a record is sound is a premise of its operations, and no fact of its type: `receive`, `send` and `timestamps` promise what they do of any
-// values of their types, and document 01 names this one premise.
+// `Sound` is a premise and no invariant, as document 01 has it: `receive`, `send` and `timestamps` take values too that are not sound.
 #[derive(Clone, Copy)]
 pub struct Connection {
     pub receive: Receive,
@@ -146,7 +146,7 @@ impl Numbered for OpenRefusal {
         }
     }
 
-    ghost positive = { open_refusal_positive };
+    ghost positive = { Prim.search rules };
 }
 
 impl Numbered for ProfileRefusal {
@@ -159,7 +159,7 @@ impl Numbered for ProfileRefusal {
         }
     }
 
-    ghost positive = { profile_refusal_positive };
+    ghost positive = { Prim.search rules };
 }
 
 impl Numbered for ArriveRefusal {
@@ -172,7 +172,7 @@ impl Numbered for ArriveRefusal {
         }
     }
 
-    ghost positive = { arrive_refusal_positive };
+    ghost positive = { Prim.search rules };
 }
 
 impl From<Refusal> for OpenRefusal {
@@ -244,14 +244,12 @@ impl Verdict {
 
 impl Connection {
     // Opens a record from the peer's SYN segment: E9, reading, E10, E11.
-    #[tactic(auto, unfolding(crate::specs::Opening::opening))]
+    #[tactic(auto, using(crate::proofs::Exits::read_shown, crate::proofs::Exits::unread_opening, crate::proofs::Exits::read_opening), unfolding(crate::specs::Opening::opening))]
     pub fn open(own: Setup, clock: u64, syn: &[u8]) -> Result<Opened, OpenRefusal>
         ensures answer { shown_open result ≡ opening own clock syn.now }
         ensures sound { IfOk result (λ opened. Sound opened.connection) }
     {
-        if opening::exceeds_limits(own) {
-            return Err(OpenRefusal::ExceededLimits);
-        }
+        opening::within_limits(own)?;
         let syn = segment::read(syn).outcome?;
         opening::open_from(own, clock, &syn)
     }
@@ -262,21 +260,17 @@ impl Connection {
         ensures answer { shown_open result ≡ opening_read own clock syn }
         ensures sound { IfOk result (λ opened. Sound opened.connection) }
     {
-        if opening::exceeds_limits(own) {
-            return Err(OpenRefusal::ExceededLimits);
-        }
+        opening::within_limits(own)?;
         opening::open_from(own, clock, &syn)
     }
 
     // Opens a record under the field-station profile: E9, reading, E10, E11, E17.
-    #[tactic(auto, unfolding(crate::specs::Profile::profile_opening))]
+    #[tactic(auto, using(crate::proofs::Exits::read_shown, crate::proofs::Exits::limits_profile, crate::proofs::Exits::unread_profile, crate::proofs::Exits::read_profile))]
     pub fn open_under_profile(own: Setup, clock: u64, syn: &[u8]) -> Result<Opened, ProfileRefusal>
         ensures answer { shown_profile result ≡ profile_opening own clock syn.now }
         ensures sound { IfOk result (λ opened. Sound opened.connection) }
     {
-        if opening::exceeds_limits(own) {
-            return Err(OpenRefusal::ExceededLimits.into());
-        }
+        opening::within_limits(own)?;
         let syn = segment::read(syn).outcome?;
         profile::open_from(own, clock, &syn)
     }
@@ -291,14 +285,12 @@ impl Connection {
         ensures answer { shown_profile result ≡ profile_opening_read own clock syn }
         ensures sound { IfOk result (λ opened. Sound opened.connection) }
     {
-        if opening::exceeds_limits(own) {
-            return Err(OpenRefusal::ExceededLimits.into());
-        }
+        opening::within_limits(own)?;
         profile::open_from(own, clock, &syn)
     }
 
     // The record that stands beside a refused opening.
-    #[tactic(auto, unfolding(crate::specs::Record::blank))]
+    #[tactic(auto, using(crate::proofs::Keeping::blank_sound), unfolding(crate::specs::Record::blank))]
     pub fn blank() -> Connection
         ensures blank { result ≡ blank }
         ensures sound { Sound result }
@@ -328,7 +320,7 @@ impl Connection {
     }
 
     // The answer to a segment that arrives at this clock: reading, E8, the verdict, and what taking does.
-    #[tactic(auto, unfolding(crate::specs::Arriving::arriving))]
+    #[tactic(auto, using(crate::proofs::Exits::read_shown, crate::proofs::Exits::unread_arrival, crate::proofs::Exits::read_arrival))]
     pub fn arrive(self, clock: u64, segment: &[u8]) -> Result<Arrival, ArriveRefusal>
         requires { Sound self }
         ensures answer { shown self result ≡ arriving self clock segment.now }

@@ -7,7 +7,7 @@ use segment::{SackBlocks, Segment};
 
 impl Connection {
     // Those of the segment's blocks that are listed, in their order; none where SACK is not in force.
-    #[tactic(auto, unfolding(crate::specs::Taking::listed))]
+    #[tactic(auto, using(crate::proofs::Blocks::one_passes, crate::proofs::Blocks::one_fails), unfolding(crate::specs::Taking::listed))]
     pub(super) fn listed(self, s: &Segment) -> SackBlocks
         ensures { result ≡ listed self s.now }
     {

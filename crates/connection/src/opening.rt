@@ -1,5 +1,6 @@
 // Opening a record from the peer's SYN segment.
-ghost use Rattle.std.specs.Prelude.{◌≡◌, IfOk};
+ghost use Rattle.std.specs.Prelude.{◌≡◌, true, false, IfErr, IfOk, OnOk};
+ghost use Rattle.connection.specs.declared.OpenRefusal.{OpenRefusal};
 ghost use Rattle.connection.specs.Record.{Sound};
 ghost use Rattle.connection.specs.Opening.{exceeds_limits, is_not_syn, is_wrong_ack, mss_of, opening_from, peer_offers, record_from, shown_open};
 
@@ -34,10 +35,14 @@ pub fn peer_offers(syn: &Segment) -> Offers
 }
 
 // E9.
-pub fn exceeds_limits(own: Setup) -> bool
-    ensures { result ≡ exceeds_limits own }
+pub fn within_limits(own: Setup) -> Result<(), OpenRefusal>
+    ensures ok { OnOk result (exceeds_limits own ≡ false) }
+    ensures err { IfErr result (λ why. (why ≡ OpenRefusal.ExceededLimits) × (exceeds_limits own ≡ true)) }
 {
-    own.offers.exceed_limits(own.window)
+    if own.offers.exceed_limits(own.window) {
+        return Err(OpenRefusal::ExceededLimits);
+    }
+    Ok(())
 }
 
 // E10.
@@ -56,26 +61,18 @@ fn is_wrong_ack(iss: Seq, syn: &Segment) -> bool
     syn.flags.ack && syn.ack != iss.moved(1)
 }
 
-#[tactic(auto, unfolding(crate::specs::Opening::record_from, crate::specs::Opening::record_with))]
+#[tactic(auto, using(crate::proofs::Keeping::record_sound), unfolding(crate::specs::Opening::record_from, crate::specs::Opening::record_with))]
 fn record_from(own: Setup, clock: u64, syn: &Segment) -> Connection
-    ensures is { result ≡ record_from own clock syn.now }
+    ensures opened { result ≡ record_from own clock syn.now }
     ensures sound { Sound result }
 {
     let force = own.offers.in_force(peer_offers(syn));
-    let tsval = tsval_of(syn.options.timestamps);
+    let receive_shift = u32::from(force.shifts.receive);
+    let send_shift = u32::from(force.shifts.send);
     Connection {
-        receive: Receive::new(
-            syn.seq.moved(1),
-            own.window,
-            u32::from(force.shifts.receive),
-        ),
-        send: Send::new(
-            own.iss,
-            u32::from(force.shifts.send),
-            ack_fields_of(syn),
-            syn.flags.ack,
-        ),
-        timestamping: Timestamping::new(force.timestamps, own.offset, clock, tsval),
+        receive: Receive::new(syn.seq.moved(1), own.window, receive_shift),
+        send: Send::new(own.iss, send_shift, ack_fields_of(syn), syn.flags.ack),
+        timestamping: Timestamping::new(force.timestamps, own.offset, clock, tsval_of(syn)),
         sack: force.sack,
         mss: mss(syn.options.mss),
         timer: Timer::new(),

@@ -8,7 +8,7 @@ use super::{Opened, ProfileRefusal, Setup, opening};
 use segment::Segment;
 
 // E10, E11, then E17, by both sides' offers as they were written and by the MSS that the record keeps.
-#[tactic(auto, unfolding(crate::specs::Profile::under_profile))]
+#[tactic(auto, using(crate::proofs::Exits::under_lacking, crate::proofs::Exits::under_met), unfolding(crate::specs::Profile::under_profile))]
 pub fn open_from(own: Setup, clock: u64, syn: &Segment) -> Result<Opened, ProfileRefusal>
     ensures answer { shown_profile result ≡ under_profile own.offers (opening_from own clock syn.now) syn.now }
     ensures sound { IfOk result (λ opened. Sound opened.connection) }

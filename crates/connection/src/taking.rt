@@ -7,7 +7,7 @@ ghost use Rattle.connection.specs.Taking.{expected_samples, fed_by, record_after
 
 use super::Connection;
 use rto::Timer;
-use segment::{Segment, Timestamps};
+use segment::Segment;
 use send::AckFields;
 use serial::{Serial, Stamp};
 
@@ -26,13 +26,14 @@ pub fn ack_fields_of(s: &Segment) -> AckFields
 }
 
 // The TSval that the timestamps take from a segment.
-pub fn tsval_of(timestamps: Option<Timestamps>) -> Option<Stamp>
-    ensures { result ≡ tsval_of timestamps }
+pub fn tsval_of(s: &Segment) -> Option<Stamp>
+    ensures { result ≡ tsval_of s.now.options.timestamps }
 {
-    timestamps.map(|pair| pair.value)
+    s.options.timestamps.map(|pair| pair.value)
 }
 
 // How many samples a round trip is expected to give (RFC 7323's ExpectedSamples): one for each two segments outstanding.
+#[tactic(auto, using(crate::proofs::Samples::ceil_rounds_up))]
 fn expected_samples(outstanding: u32, mss: u16) -> u32
     ensures { result ≡ expected_samples outstanding mss }
 {
@@ -54,24 +55,22 @@ impl Connection {
         };
         let outstanding = self.send.nxt.offset(self.send.una);
         let rtt = self.timestamping.sample(clock, pair.echoed);
-        self.timer
-            .feed(rtt, expected_samples(outstanding, self.mss))
+        let expected = expected_samples(outstanding, self.mss);
+        self.timer.feed(rtt, expected)
     }
 
     // The record after a segment is taken.
-    #[tactic(auto, unfolding(crate::specs::Taking::record_after))]
+    #[tactic(auto, using(crate::proofs::Keeping::record_after_sound), unfolding(crate::specs::Taking::record_after))]
     pub(super) fn record_after(self, clock: u64, s: &Segment) -> Connection
         requires { Sound self }
-        ensures is { result ≡ record_after self clock s.now }
+        ensures taken { result ≡ record_after self clock s.now }
         ensures sound { Sound result }
     {
-        let tsval = tsval_of(s.options.timestamps);
+        let acked = self.receive.acked;
         Connection {
             receive: self.receive.take(s.seq, s.len),
             send: self.send.take(ack_fields_of(s)),
-            timestamping: self
-                .timestamping
-                .take(clock, self.receive.acked, s.seq, tsval),
+            timestamping: self.timestamping.take(clock, acked, s.seq, tsval_of(s)),
             timer: self.timer_after(clock, s),
             ..self
         }

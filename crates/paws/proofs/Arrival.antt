@@ -9,6 +9,7 @@ use Prim.Native.Nat.{ℕ, ◌+◌, ◌%◌, ◌^◌, ◌≤◌, ◌<◌}
 use native.Mathlib.Decide.{dec_lt}
 use native.Mathlib.Omega.{arith}
 use Rattle.laws.proofs.Choices.{either}
+use Rattle.serial.specs.declared.Stamp.{Stamp}
 use Rattle.serial.specs.Serial.{moved_by, offset_of}
 use Rattle.serial.specs.declared.Seq.{Seq}
 use Rattle.serial.proofs.Offset.{moved_offset}

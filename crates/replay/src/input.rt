@@ -1,81 +1,47 @@
 // A call read from standard input: the octet that names it, the length of its body, and the body.
-use crate::body;
+use crate::call::Call;
+use octets::Number;
 use std::io;
-use std::io::Read;
+use std::io::{ErrorKind, Read};
 
 // The most octets of a body.
-const MAX_BODY: usize = 65_664;
+pub const MAX_BODY: usize = 65_664;
 
-#[derive(Clone, Copy)]
-pub enum Input {
-    // A call and the length of its body.
-    Call(u8, usize),
+// Why no call can be made.
+#[derive(Drop)]
+pub enum InputError {
     // Octets that are no call: an unknown one, a body that is too long or too short, or an end inside of it.
     Bad,
-    // The end of the script.
-    End,
+    Io(io::Error),
 }
 
-// Reads the next call, and puts its body at the start of `body`.
-pub fn next(script: &mut impl Read, body: &mut [u8]) -> io::Result<Input> {
-    let mut head = [0u8; 5];
-    let got = read_full(script, &mut head)?;
-    if got == 0 {
-        return Ok(Input::End);
-    }
-    if got < 5 {
-        return Ok(Input::Bad);
-    }
-    let call = octets::read_u8(&head, 0);
-    let length = octets::read_u32(&head, 1) as usize;
-    if MAX_BODY < length {
-        return Ok(Input::Bad);
-    }
-    read_body(script, call, length, body)
-}
-
-fn read_body(
-    script: &mut impl Read,
-    call: u8,
-    length: usize,
-    body: &mut [u8],
-) -> io::Result<Input> {
-    let part = body::first_mut(body, length);
-    let got = read_full(script, part)?;
-    if got < length {
-        return Ok(Input::Bad);
-    }
-    if length < least_length(call, body) {
-        return Ok(Input::Bad);
-    }
-    Ok(Input::Call(call, length))
-}
-
-// Reads until the octets are full or the script ends, and answers how many it read.
-fn read_full(script: &mut impl Read, octets: &mut [u8]) -> io::Result<usize> {
-    let mut done = 0;
-    while done < octets.len() {
-        let got = script.read(&mut octets[done..])?;
-        if got == 0 {
-            break;
+impl From<io::Error> for InputError {
+    fn from(e: io::Error) -> InputError {
+        match e.kind() {
+            ErrorKind::UnexpectedEof => InputError::Bad,
+            _ => InputError::Io(e),
         }
-        done += got;
     }
-    Ok(done)
 }
 
-// The octets that the fixed fields of a call take; more than any body has where there is no such call.
-fn least_length(call: u8, body: &[u8]) -> usize {
-    match call {
-        1 | 9 | 10 | 12 | 13 => 0,
-        // The count of kinds, and the kinds.
-        2 => 1 + octets::read_u8(body, 0) as usize,
-        3 | 11 | 14 => 8,
-        4 | 19 => 22,
-        5 => 8,
-        6 | 7 => 4,
-        8 => 12,
-        15 => 16,
-        _ => MAX_BODY + 1,
+// Reads the next call, and its body into the start of `space`; there is none where the script ends.
+pub fn next<'a>(
+    script: &mut impl Read,
+    space: &'a mut [u8],
+) -> Result<Option<(Call, &'a mut [u8])>, InputError> {
+    let mut head = [0; 5];
+    let got = script.read(&mut head)?;
+    if got == 0 {
+        return Ok(None);
+    }
+    script.read_exact(&mut head[got..])?;
+    let length = u32::read(&head, 1) as usize;
+    let Some(body) = space.get_mut(..length) else {
+        return Err(InputError::Bad);
+    };
+    script.read_exact(body)?;
+    match Call::try_from(head[0]) {
+        Ok(call) if call.fixed_fields(body) <= length => Ok(Some((call, body))),
+        _ => Err(InputError::Bad),
     }
 }

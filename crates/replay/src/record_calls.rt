@@ -1,201 +1,140 @@
 // Calls on the connection record: opening it, an arriving segment, octets sent, the receive window, an acknowledgment, expiry.
-ghost use Rattle.std.specs.Prelude.{IfOk};
-ghost use Rattle.connection.specs.Record.{Sound};
-
+use crate::place_or_count;
 use crate::state::State;
-use crate::{body, place_or_count, state_lines, text};
-use acknowledgment::AckOutcome;
-use connection::{Arrival, Connection, ProfileOutcome};
-use receive::Part;
+use crate::text::{Hex, OrDash, Ranges, RecordFields};
+use connection::{Arrival, ArriveRefusal, Connection, ProfileRefusal};
+use octets::Number;
+use refusals::{Numbered, number_of};
 use std::io;
 use writer::Ports;
 
 // Opens a record from the peer's SYN; the record that was there stays where the opening is refused.
-pub fn open(rt: &impl Print, state: State, body: &[u8]) -> io::Result<State>
-    requires { Sound state.connection }
-    ensures { IfOk result (λ s. Sound s.connection) }
-{
-    let answer = Connection::open(script::setup(body), opening_clock(body), opening_syn(body));
-    let outcome = answer.outcome;
-    text::start(rt, b"open", outcome.number())?;
-    place_or_count::of_opening(rt, outcome)?;
-    with_record(rt, state.opened(outcome.number(), answer.connection))
+pub fn open(rt: &impl Print, state: &mut State, body: &[u8]) -> io::Result<()> {
+    let answer = Connection::open(script::setup(body), u64::read(body, 14), rest(body, 22));
+    let place = place_or_count::of_opening(answer);
+    println!(rt; "open {} {}", number_of(&answer), OrDash(place))?;
+    if let Ok(opened) = answer {
+        state.connection = Some(opened.connection);
+    }
+    record_line(rt, state)
 }
 
 // The same under the field-station profile.
-pub fn open_under_profile(rt: &impl Print, state: State, body: &[u8]) -> io::Result<State>
-    requires { Sound state.connection }
-    ensures { IfOk result (λ s. Sound s.connection) }
-{
-    let answer = Connection::open_under_profile(
-        script::setup(body),
-        opening_clock(body),
-        opening_syn(body),
-    );
-    let outcome = answer.outcome;
-    profile_numbers(rt, outcome)?;
-    with_record(rt, state.opened(outcome.number(), answer.connection))
-}
-
-fn opening_clock(body: &[u8]) -> u64 {
-    body::read_u64(body::rest(body, 14))
-}
-
-fn opening_syn(body: &[u8]) -> &[u8] {
-    body::rest(body, 22)
-}
-
-fn profile_numbers(rt: &impl Print, outcome: ProfileOutcome) -> io::Result<()> {
-    text::start(rt, b"profile", outcome.number())?;
-    match outcome {
-        ProfileOutcome::Opening(outcome) => {
-            text::absent(rt)?;
-            place_or_count::of_opening(rt, outcome)
-        }
-        ProfileOutcome::Lacking(lack) => {
-            text::number(rt, text::from_u8(lack.value()))?;
-            text::absent(rt)
-        }
+pub fn open_under_profile(rt: &impl Print, state: &mut State, body: &[u8]) -> io::Result<()> {
+    let setup = script::setup(body);
+    let answer = Connection::open_under_profile(setup, u64::read(body, 14), rest(body, 22));
+    let (lack, place) = match answer {
+        Ok(opened) => (None, Some(opened.skipped)),
+        Err(ProfileRefusal::Opening(why)) => (None, place_or_count::of_opening(Err(why))),
+        Err(ProfileRefusal::Lacking(lack)) => (Some(lack.value()), None),
+    };
+    println!(rt;
+        "profile {} {} {}",
+        number_of(&answer),
+        OrDash(lack),
+        OrDash(place)
+    )?;
+    if let Ok(opened) = answer {
+        state.connection = Some(opened.connection);
     }
+    record_line(rt, state)
 }
 
-// Makes a call on the record, if one is open.
-pub fn answer(rt: &impl Print, state: State, call: u8, body: &[u8]) -> io::Result<State>
-    requires { Sound state.connection }
-    ensures { IfOk result (λ s. Sound s.connection) }
-{
-    if !state.open {
-        text::word(rt, b"closed")?;
-        return Ok(state);
+pub fn arrive(rt: &impl Print, state: &mut State, body: &[u8]) -> io::Result<()> {
+    let Some(k) = state.connection else {
+        return closed(rt);
+    };
+    match k.arrive(u64::read(body, 0), rest(body, 8)) {
+        Ok(arrival) => {
+            print_arrival(rt, &arrival)?;
+            state.connection = Some(arrival.connection);
+        }
+        Err(why) => print_arrive_refusal(rt, why)?,
     }
-    let connection = after(rt, state.connection, call, body)?;
-    with_record(
-        rt,
-        State {
-            connection,
-            ..state
-        },
+    record_line(rt, state)
+}
+
+fn print_arrival(rt: &impl Print, arrival: &Arrival) -> io::Result<()> {
+    let part = arrival.part;
+    // A part whose end lies before its start has no octets.
+    let length = part.to.saturating_sub(part.from);
+    println!(rt;
+        "arrive {} {} {length} {} {} {}",
+        arrival.verdict.number(),
+        part.from,
+        u8::from(arrival.fin),
+        Ranges(arrival.blocks.as_slice()),
+        arrival.skipped
     )
 }
 
-fn after(rt: &impl Print, k: Connection, call: u8, body: &[u8]) -> io::Result<Connection>
-    requires { Sound k }
-    ensures { IfOk result Sound }
-{
-    match call {
-        5 => arrive(rt, k, body),
-        6 => note_sent(rt, k, body),
-        7 => open_window(rt, k, body),
-        8 => acknowledge(rt, k, body),
-        _ => {
-            text::word(rt, b"expire")?;
-            Ok(k.expire())
-        }
+fn print_arrive_refusal(rt: &impl Print, why: ArriveRefusal) -> io::Result<()> {
+    let place = place_or_count::of_arrive_refusal(why);
+    println!(rt; "arrive {} 0 0 0 0 {}", why.number(), OrDash(place))
+}
+
+pub fn note_sent(rt: &impl Print, state: &mut State, body: &[u8]) -> io::Result<()> {
+    let Some(k) = state.connection else {
+        return closed(rt);
+    };
+    let answer = k.note_sent(u32::read(body, 0));
+    println!(rt; "sent {}", number_of(&answer))?;
+    state.connection = Some(answer.unwrap_or(k));
+    record_line(rt, state)
+}
+
+pub fn open_window(rt: &impl Print, state: &mut State, body: &[u8]) -> io::Result<()> {
+    let Some(k) = state.connection else {
+        return closed(rt);
+    };
+    let answer = k.open_window(u32::read(body, 0));
+    println!(rt; "window {}", number_of(&answer))?;
+    state.connection = Some(answer.unwrap_or(k));
+    record_line(rt, state)
+}
+
+// Writes an acknowledgment into the buffer that the body ends in.
+pub fn acknowledge(rt: &impl Print, state: &mut State, body: &mut [u8]) -> io::Result<()> {
+    let Some(k) = state.connection else {
+        return closed(rt);
+    };
+    let at = body.len().min(12);
+    let (fields, buffer) = body.split_at_mut(at);
+    let ports = Ports {
+        source: u16::read(fields, 0),
+        destination: u16::read(fields, 2),
+    };
+    let answer = acknowledgment::write(k, ports, u64::read(fields, 4), buffer);
+    let length = answer.map_or(0, |written| written.length);
+    println!(rt;
+        "acknowledge {} {length} {}",
+        number_of(&answer),
+        Hex(buffer)
+    )?;
+    if let Ok(written) = answer {
+        state.connection = Some(written.connection);
     }
+    record_line(rt, state)
 }
 
-fn arrive(rt: &impl Print, k: Connection, body: &[u8]) -> io::Result<Connection>
-    requires { Sound k }
-    ensures { IfOk result Sound }
-{
-    let arrival = k.arrive(body::read_u64(body), body::rest(body, 8));
-    arrival_numbers(rt, arrival)?;
-    Ok(arrival.connection)
+pub fn expire(rt: &impl Print, state: &mut State) -> io::Result<()> {
+    let Some(k) = state.connection else {
+        return closed(rt);
+    };
+    println!(rt; "expire")?;
+    state.connection = Some(k.expire());
+    record_line(rt, state)
 }
 
-fn arrival_numbers(rt: &impl Print, arrival: Arrival) -> io::Result<()> {
-    let outcome = arrival.outcome;
-    let part = arrival.part;
-    let blocks = arrival.blocks;
-    text::start(rt, b"arrive", outcome.number())?;
-    part_numbers(rt, part)?;
-    text::flag(rt, arrival.fin)?;
-    state_lines::blocks(rt, blocks)?;
-    place_or_count::of_arrival(rt, outcome)
+fn rest(body: &[u8], from: usize) -> &[u8] {
+    body.get(from..).unwrap_or(&[])
 }
 
-// Where a part starts, and how many octets it has; one whose end lies before its start has none.
-fn part_numbers(rt: &impl Print, part: Part) -> io::Result<()> {
-    if part.to < part.from {
-        return text::two(rt, part.from, 0);
-    }
-    text::two(rt, part.from, part.to - part.from)
+// The answer of a call on a record where none was opened.
+fn closed(rt: &impl Print) -> io::Result<()> {
+    println!(rt; "closed")
 }
 
-fn note_sent(rt: &impl Print, k: Connection, body: &[u8]) -> io::Result<Connection>
-    requires { Sound k }
-    ensures { IfOk result Sound }
-{
-    let answer = k.note_sent(octets::read_u32(body, 0));
-    let outcome = answer.outcome;
-    text::start(rt, b"sent", outcome.number())?;
-    Ok(answer.connection)
-}
-
-fn open_window(rt: &impl Print, k: Connection, body: &[u8]) -> io::Result<Connection>
-    requires { Sound k }
-    ensures { IfOk result Sound }
-{
-    let answer = k.open_window(octets::read_u32(body, 0));
-    let outcome = answer.outcome;
-    text::start(rt, b"window", outcome.number())?;
-    Ok(answer.connection)
-}
-
-// Writes an acknowledgment into a copy of the buffer that the body ends in.
-fn acknowledge(rt: &impl Print, k: Connection, body: &[u8]) -> io::Result<Connection>
-    requires { Sound k }
-    ensures { IfOk result Sound }
-{
-    let ports = ports(body);
-    let clock = body::read_u64(body::rest(body, 4));
-    written(rt, k, ports, clock, body::rest(body, 12))
-}
-
-fn ports(body: &[u8]) -> Ports {
-    Ports {
-        source: octets::read_u16(body, 0),
-        destination: octets::read_u16(body, 2),
-    }
-}
-
-fn written(
-    rt: &impl Print,
-    k: Connection,
-    ports: Ports,
-    clock: u64,
-    given: &[u8],
-) -> io::Result<Connection>
-    requires { Sound k }
-    ensures { IfOk result Sound }
-{
-    let mut space = body::space();
-    let buffer = body::copy(given, &mut space);
-    let answer = acknowledgment::write(k, ports, clock, buffer);
-    let outcome = answer.outcome;
-    acknowledgment_octets(rt, outcome, buffer)?;
-    Ok(answer.connection)
-}
-
-fn acknowledgment_octets(rt: &impl Print, outcome: AckOutcome, buffer: &[u8]) -> io::Result<()> {
-    text::start(rt, b"acknowledge", outcome.number())?;
-    text::long(rt, length_written(outcome))?;
-    text::octets(rt, buffer)
-}
-
-fn length_written(outcome: AckOutcome) -> u64 {
-    match outcome {
-        AckOutcome::Written(length) => length as u64,
-        AckOutcome::Refused(_) => 0,
-    }
-}
-
-// Ends the line of a call, and writes that of the record after it.
-fn with_record(rt: &impl Print, state: State) -> io::Result<State>
-    requires { Sound state.connection }
-    ensures { IfOk result (λ s. Sound s.connection) }
-{
-    text::newline(rt)?;
-    state_lines::record_line(rt, state)?;
-    Ok(state)
+fn record_line(rt: &impl Print, state: &State) -> io::Result<()> {
+    println!(rt; "record {}", OrDash(state.connection.map(RecordFields)))
 }

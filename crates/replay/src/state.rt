@@ -1,44 +1,33 @@
 // What a script works on: one connection record and one timer.
+ghost use Rattle.std.specs.Prelude.{IfSome};
 ghost use Rattle.connection.specs.Record.{Sound};
 
 use connection::Connection;
 use rto::Timer;
+use std::marker::Model;
 
-#[derive(Clone, Copy)]
+#[derive(Drop)]
 pub struct State {
-    // Whether a record has been opened; until then the connection is a blank one.
-    pub open: bool,
-    pub connection: Connection,
+    // None until a record is opened.
+    pub connection: Option<Connection>,
     pub timer: Timer,
 }
 
-// The state before the first call.
-pub fn new() -> State
-    ensures { Sound result.connection }
-{
-    let connection = Connection::blank();
-    let timer = Timer::new();
-    State {
-        open: false,
-        connection,
-        timer,
-    }
+// No clause says more of a state than that its record is sound.
+impl Model for State {
+    ghost Value = { Unit {0} };
+
+    ghost view = { λ _. tt };
+
+    ghost invariant = { λ state. IfSome state.connection Sound };
 }
 
 impl State {
-    // The state with the record that was opened, or as it was where the opening was refused by this number.
-    pub fn opened(self, number: u8, connection: Connection) -> State
-        requires sound { Sound self.connection }
-        requires sound_2 { Sound connection }
-        ensures { Sound result.connection }
-    {
-        if number != 0 {
-            return self;
-        }
+    // The state before the first call.
+    pub fn new() -> State {
         State {
-            open: true,
-            connection,
-            ..self
+            connection: None,
+            timer: Timer::new(),
         }
     }
 }

@@ -1,118 +1,121 @@
-// Text written to standard output: the words of a line, and its fields, each with a space before it.
-ghost use Rattle.std.specs.Prelude.{◌≡◌, ◌≤◌, length};
+// How the fields of a line are printed: in decimal, one space apart.
+use connection::Connection;
+use rto::Timer;
+use segment::{Flags, Segment};
+use serial::Range;
+use std::fmt;
 
-use crate::{body, letters};
-use itoa::Buffer;
-use std::io;
+// `-` for what is absent.
+#[derive(Clone, Copy)]
+pub struct OrDash<T>(pub Option<T>);
 
-// Letters as they stand.
-pub fn word(rt: &impl Print, letters: &[u8]) -> io::Result<()> {
-    rt.write_all(letters)
-}
-
-pub fn newline(rt: &impl Print) -> io::Result<()> {
-    word(rt, b"\n")
-}
-
-// The first word of a line, and the number after it.
-pub fn start(rt: &impl Print, first: &[u8], n: u8) -> io::Result<()> {
-    word(rt, first)?;
-    number(rt, from_u8(n))
-}
-
-pub fn number(rt: &impl Print, n: u32) -> io::Result<()> {
-    long(rt, from_u32(n))
-}
-
-pub fn long(rt: &impl Print, n: u64) -> io::Result<()> {
-    let mut line = [0u8; 24];
-    let end = letters::number(&mut line, 0, n);
-    word(rt, body::first(&line, end))
-}
-
-// Several numbers at once: each write is a call of the system.
-pub fn two(rt: &impl Print, a: u32, b: u32) -> io::Result<()> {
-    let mut line = [0u8; 48];
-    let end = letters::number(&mut line, 0, from_u32(a));
-    let end = letters::number(&mut line, end, from_u32(b));
-    word(rt, body::first(&line, end))
-}
-
-pub fn three(rt: &impl Print, a: u32, b: u32, c: u32) -> io::Result<()> {
-    two(rt, a, b)?;
-    number(rt, c)
-}
-
-pub fn four(rt: &impl Print, a: u32, b: u32, c: u32, d: u32) -> io::Result<()> {
-    two(rt, a, b)?;
-    two(rt, c, d)
-}
-
-pub fn flag(rt: &impl Print, set: bool) -> io::Result<()> {
-    number(rt, bit(set))
-}
-
-// A number that may be negative.
-pub fn signed(rt: &impl Print, n: i32) -> io::Result<()> {
-    if n < 0 {
-        word(rt, b" -")?;
-        return digits(rt, magnitude(n));
+impl<T: fmt::Display> fmt::Display for OrDash<T> {
+    fn fmt<W: fmt::Write>(&self, f: &mut fmt::Formatter<W>) -> fmt::Result {
+        match &self.0 {
+            Some(value) => write!(f, "{value}"),
+            None => f.write_str("-"),
+        }
     }
-    long(rt, magnitude(n))
 }
 
-// What is absent.
-pub fn absent(rt: &impl Print) -> io::Result<()> {
-    word(rt, b" -")
-}
+// Octets in hexadecimal, run together; `-` where there are none.
+#[derive(Clone, Copy)]
+pub struct Hex<'a>(pub &'a [u8]);
 
-// Octets in hexadecimal, run together.
-pub fn octets(rt: &impl Print, octets: &[u8]) -> io::Result<()> {
-    if octets.len() == 0 {
-        return absent(rt);
+impl fmt::Display for Hex<'_> {
+    fn fmt<W: fmt::Write>(&self, f: &mut fmt::Formatter<W>) -> fmt::Result {
+        if self.0.is_empty() {
+            return f.write_str("-");
+        }
+        for octet in self.0 {
+            write!(f, "{octet:02x}")?;
+        }
+        Ok(())
     }
-    let mut line = space();
-    let end = letters::octets(&mut line, octets);
-    word(rt, b" ")?;
-    word(rt, body::first(&line, end))
 }
 
-// 1 for what is set, 0 for what is not.
-pub fn bit(set: bool) -> u32
-    ensures { result ≤ 1 }
-{
-    if set { 1 } else { 0 }
-}
+// How many ranges there are, and the two edges of each.
+#[derive(Clone, Copy)]
+pub struct Ranges<'a>(pub &'a [Range]);
 
-// Numbers widened by a call, which is proved sooner than the cast of a struct's field.
-pub fn from_u8(n: u8) -> u32 {
-    n as u32
-}
-
-pub fn from_u16(n: u16) -> u32 {
-    n as u32
-}
-
-fn from_u32(n: u32) -> u64 {
-    n as u64
-}
-
-fn digits(rt: &impl Print, n: u64) -> io::Result<()> {
-    let mut line = Buffer::new();
-    word(rt, line.format(n).as_bytes())
-}
-
-// A number without its sign; -2^31 is turned round by way of -1 - n, which an i32 holds.
-fn magnitude(n: i32) -> u64 {
-    if 0 <= n {
-        return n as u64;
+impl fmt::Display for Ranges<'_> {
+    fn fmt<W: fmt::Write>(&self, f: &mut fmt::Formatter<W>) -> fmt::Result {
+        write!(f, "{}", self.0.len())?;
+        for range in self.0 {
+            write!(f, " {} {}", range.left.0, range.right.0)?;
+        }
+        Ok(())
     }
-    (-1 - n) as u64 + 1
 }
 
-// Room for the longest body in hexadecimal.
-fn space() -> [u8; 131328]
-    ensures { 131328 ≡ length result }
-{
-    [0; 131328]
+// A segment's fields, from its ports to its payload.
+#[derive(Clone, Copy)]
+pub struct SegmentFields(pub Segment);
+
+impl fmt::Display for SegmentFields {
+    fn fmt<W: fmt::Write>(&self, f: &mut fmt::Formatter<W>) -> fmt::Result {
+        let s = self.0;
+        let options = s.options;
+        write!(f, "{} {} {} {}", s.source, s.destination, s.seq.0, s.ack.0)?;
+        write!(f, " {} {} {}", flags_octet(s.flags), s.window, s.urgent)?;
+        write!(f, " {} {}", OrDash(options.mss), OrDash(options.scale))?;
+        write!(f, " {}", u8::from(options.permitted))?;
+        write!(f, " {}", OrDash(options.timestamps.map(|t| t.value.0)))?;
+        write!(f, " {}", OrDash(options.timestamps.map(|t| t.echoed.0)))?;
+        write!(f, " {}", Ranges(options.blocks.as_slice()))?;
+        write!(f, " {} {}", s.payload.start, s.payload.length)
+    }
+}
+
+// The flags as octet 13 has them.
+fn flags_octet(f: Flags) -> u8 {
+    let mut octet = 0;
+    for flag in [f.cwr, f.ece, f.urg, f.ack, f.psh, f.rst, f.syn, f.fin] {
+        octet = octet << 1 | u8::from(flag);
+    }
+    octet
+}
+
+// The line of a record.
+#[derive(Clone, Copy)]
+pub struct RecordFields(pub Connection);
+
+impl fmt::Display for RecordFields {
+    fn fmt<W: fmt::Write>(&self, f: &mut fmt::Formatter<W>) -> fmt::Result {
+        let k = self.0;
+        let r = k.receive;
+        let s = k.send;
+        let t = k.timestamping;
+        write!(f, "{} {} {} {}", r.nxt.0, r.window, r.acked.0, r.shift)?;
+        write!(f, " {} {} {}", s.shift, s.una.0, s.nxt.0)?;
+        write!(f, " {} {} {}", s.window, s.wl1.0, s.wl2.0)?;
+        write!(
+            f,
+            " {} {} {} {}",
+            u8::from(t.active),
+            t.recent.0,
+            t.since,
+            t.offset
+        )?;
+        write!(f, " {} {}", u8::from(k.sack), k.mss)?;
+        write!(f, " {}", Ranges(r.held.as_slice()))?;
+        write!(f, " {} {}", TimerFields(k.timer), s.largest)
+    }
+}
+
+#[derive(Clone, Copy)]
+pub struct TimerFields(pub Timer);
+
+impl fmt::Display for TimerFields {
+    fn fmt<W: fmt::Write>(&self, f: &mut fmt::Formatter<W>) -> fmt::Result {
+        let t = self.0;
+        write!(
+            f,
+            "{} {} {} {}",
+            u8::from(t.sampled),
+            t.srtt,
+            t.rttvar,
+            t.timeout
+        )
+    }
 }

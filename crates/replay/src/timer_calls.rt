@@ -1,47 +1,30 @@
 // Calls on the timer that stands by itself: a new one, a sample, an expiry.
-ghost use Rattle.std.specs.Prelude.{IfOk};
-ghost use Rattle.connection.specs.Record.{Sound};
-
 use crate::state::State;
-use crate::{state_lines, text};
-use rto::{SampleAnswer, Timer};
+use crate::text::TimerFields;
+use octets::Number;
+use refusals::number_of;
+use rto::Timer;
 use std::io;
 
-// Makes a call on the timer, and writes its answer.
-pub fn answer(rt: &impl Print, state: State, call: u8, body: &[u8]) -> io::Result<State>
-    requires { Sound state.connection }
-    ensures { IfOk result (λ s. Sound s.connection) }
-{
-    let timer = after(rt, state.timer, call, body)?;
-    text::newline(rt)?;
-    state_lines::timer_line(rt, timer)?;
-    Ok(State { timer, ..state })
+pub fn renew(rt: &impl Print, state: &mut State) -> io::Result<()> {
+    println!(rt; "timer")?;
+    state.timer = Timer::new();
+    timer_line(rt, state)
 }
 
-fn after(rt: &impl Print, timer: Timer, call: u8, body: &[u8]) -> io::Result<Timer> {
-    match call {
-        10 => {
-            text::word(rt, b"timer")?;
-            Ok(Timer::new())
-        }
-        11 => sample(
-            rt,
-            timer,
-            octets::read_u32(body, 0),
-            octets::read_u32(body, 4),
-        ),
-        _ => {
-            text::word(rt, b"expiry")?;
-            Ok(timer.expire())
-        }
-    }
+pub fn sample(rt: &impl Print, state: &mut State, body: &[u8]) -> io::Result<()> {
+    let answer = state.timer.sample(u32::read(body, 0), u32::read(body, 4));
+    println!(rt; "sample {}", number_of(&answer))?;
+    state.timer = answer.unwrap_or(state.timer);
+    timer_line(rt, state)
 }
 
-fn sample(rt: &impl Print, timer: Timer, rtt: u32, expected: u32) -> io::Result<Timer> {
-    let answer = timer.sample(rtt, expected);
-    text::start(rt, b"sample", answer.number())?;
-    match answer {
-        SampleAnswer::Moved(moved) => Ok(moved),
-        SampleAnswer::Refused => Ok(timer),
-    }
+pub fn expire(rt: &impl Print, state: &mut State) -> io::Result<()> {
+    println!(rt; "expiry")?;
+    state.timer = state.timer.expire();
+    timer_line(rt, state)
+}
+
+fn timer_line(rt: &impl Print, state: &State) -> io::Result<()> {
+    println!(rt; "timer-state {}", TimerFields(state.timer))
 }

@@ -1,6 +1,0 @@
--- Octet by octet.
-use Rattle.std.proofs.Common.{length, ◌-◌}
-use Rattle.replay.proofs.body.fill.Given as goal
-
-abbrev pub decreases-loop-i : goal.decreases-loop-i
-decreases-loop-i l = length l.octets - l.i

@@ -1,6 +1,0 @@
--- Letter by letter.
-use Rattle.std.proofs.Common.{length, ◌-◌}
-use Rattle.replay.proofs.letters.word.Given as goal
-
-abbrev pub decreases-loop-i : goal.decreases-loop-i
-decreases-loop-i l = length l.letters - l.i
