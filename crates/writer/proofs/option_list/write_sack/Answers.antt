@@ -1,5 +1,5 @@
 -- `option_list::write_sack` meets its contract. Assumes nothing.
-use mathlib.Core.Path.{sym, subst, ◌≡◌}
+use mathlib.Core.Path.{sym, subst}
 use Prim.Native.Nat.{◌<◌}
 use native.Mathlib.Omega.{arith}
 use lib.ListN.{length}
@@ -7,9 +7,8 @@ use lib.Seq.{take_all}
 use Rattle.std.proofs.lemmas.Bool.Decides.{nat_tests}
 use Rattle.writer.specs.Cursor.{HasRoom, Writes}
 use Rattle.writer.specs.Writing.{blocks_written}
-use Rattle.writer.proofs.Lengths.{no_sack}
 use Rattle.writer.proofs.OptionOctets.{sack_parts}
-use Rattle.writer.proofs.Runs.{blocks_left, blocks_more, room_first, room_then, writes_none, writes_then}
+use Rattle.writer.proofs.Runs.{blocks_left, blocks_more, room_then, writes_none, writes_then}
 use Rattle.writer.proofs.option_list.write_sack.Goals as goal
 
 pub loop-block-init : goal.loop-block-init
