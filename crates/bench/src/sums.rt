@@ -15,7 +15,7 @@ pub fn arrival(arrival: &Arrival) -> u64 {
         arrival.skipped as u64,
         new_part(arrival.part),
         u64::from(arrival.fin),
-        blocks(&arrival.blocks),
+        blocks(arrival.blocks),
     ])
 }
 
@@ -93,7 +93,7 @@ fn options(options: &Options) -> u64 {
         options.scale.map_or(0, u64::from),
         u64::from(options.permitted),
         options.timestamps.map_or(0, stamps),
-        blocks(&options.blocks),
+        blocks(options.blocks),
     ])
 }
 
@@ -104,7 +104,8 @@ fn stamps(timestamps: Timestamps) -> u64 {
     ])
 }
 
-fn blocks(blocks: &SackBlocks) -> u64 {
+// By value: of what is lent and gone through by an index the compiler leaves the whole in memory.
+fn blocks(blocks: SackBlocks) -> u64 {
     blocks
         .as_slice()
         .iter()

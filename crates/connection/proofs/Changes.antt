@@ -3,7 +3,9 @@
 use mathlib.Core.Logic.{◌⊎◌}
 use mathlib.Core.Path.{◌≡◌, refl, ap}
 use Prim.Native.Nat.{ℕ, ◌+◌, ◌*◌, ◌^◌, ◌≤◌, ◌<◌}
+use Rattle.receive.specs.Taking as taking
 use Rattle.receive.specs.Window as receive
+use Rattle.receive.specs.declared.Receive.{Receive}
 use Rattle.receive.proofs.Edge.{Acknowledges, acknowledged_only}
 use Rattle.receive.proofs.Opening as window
 use Rattle.receive.proofs.Opening.{Widens}
@@ -36,30 +38,21 @@ pub record OnlySend (k after : Connection) : Type 0 where
   pub timer_stays : after.timer ≡ k.timer
   pub rest_stays : RestStays k after
 
+only_receive : (k : Connection) (r : Receive) → OnlyReceive k (with_receive k r)
+only_receive k r =
+    record { send_stays = refl; timer_stays = refl; rest_stays = record { timestamping_stays = refl; sack_stays = refl; mss_stays = refl } }
+
 module _ (k : Connection) where
   -- an expiry changes only the timer
   pub expiry_changes : ((expired k).timer ≡ rto.expired k.timer) × OnlyTimer k (expired k)
   unfolding expired
-  expiry_changes = (
-    refl,
-    record {
-      receive_stays = refl;
-      send_stays = refl;
-      rest_stays = record { timestamping_stays = refl; sack_stays = refl; mss_stays = refl };
-    },
-  )
+  expiry_changes =
+      (refl, record { receive_stays = refl; send_stays = refl; rest_stays = record { timestamping_stays = refl; sack_stays = refl; mss_stays = refl } })
 
   -- Last.ACK.sent = RCV.NXT, and nothing else in the record changes
   pub acknowledgment_changes : Acknowledges k.receive (acknowledged k).receive × OnlyReceive k (acknowledged k)
   unfolding acknowledged
-  acknowledgment_changes = (
-    acknowledged_only k.receive,
-    record {
-      send_stays = refl;
-      timer_stays = refl;
-      rest_stays = record { timestamping_stays = refl; sack_stays = refl; mss_stays = refl };
-    },
-  )
+  acknowledgment_changes = (acknowledged_only k.receive, only_receive k (taking.acknowledged k.receive))
 
   module _ (n : ℕ) where
     -- noting n octets adds n to SND.NXT, and changes nothing else, where (NXT - UNA) + n is at most SND.WND
@@ -67,15 +60,9 @@ module _ (k : Connection) where
         → ((sent k n).number ≡ 0) × Notes k.send n (sent k n).connection.send × OnlySend k (sent k n).connection
     unfolding sent
     sent_changes fits =
-        let noted = sending.sent_noted k.send n fits in (
-          noted.0,
-          noted.1,
-          record {
-            receive_stays = refl;
-            timer_stays = refl;
-            rest_stays = record { timestamping_stays = refl; sack_stays = refl; mss_stays = refl };
-          },
-        )
+        let noted = sending.sent_noted k.send n fits in
+        let rest : RestStays k (with_send k (send.sent k.send n).send) = record { timestamping_stays = refl; sack_stays = refl; mss_stays = refl } in
+        (noted.0, noted.1, record { receive_stays = refl; timer_stays = refl; rest_stays = rest })
 
     -- and where it is above, E12, and the record stays
     pub sent_refused : k.send.window < send.outstanding k.send + n → sent k n ≡ record { number = 12; connection = k }
@@ -92,15 +79,8 @@ module _ (k : Connection) where
         × OnlyReceive k (window_opened k n).connection
     unfolding window_opened
     window_changes least most =
-        let set = window.window_set k.receive n least most in (
-          set.0,
-          set.1,
-          record {
-            send_stays = refl;
-            timer_stays = refl;
-            rest_stays = record { timestamping_stays = refl; sack_stays = refl; mss_stays = refl };
-          },
-        )
+        let set = window.window_set k.receive n least most in
+        (set.0, set.1, only_receive k (receive.window_opened k.receive n).receive)
 
     -- and where it is below or above, E13, and the record stays
     pub window_refused : (n < k.receive.window) ⊎ (65535 * 2 ^ k.receive.shift < n) → window_opened k n ≡ record { number = 13; connection = k }

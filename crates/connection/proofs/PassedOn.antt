@@ -32,6 +32,15 @@ use Rattle.connection.specs.Calls.{Incoming, arrived, fields_of, opened_by, read
 use Rattle.connection.proofs.Incoming.{arrived_by_fields, opened_by_fields, unreadable_refused}
 use Rattle.connection.proofs.Openings.{unreadable_not_opened}
 
+-- by whether octets read, and by a test
+by_fields : {P : Type 0} (fields : Option Segment) → (fields ≡ none → P) → ((s : Segment) → fields ≡ some s → P) → P
+by_fields none lacks reads = lacks refl
+by_fields (some s) lacks reads = reads s refl
+
+by_test : {P : Type 0} (t : Bool) → (t ≡ true → P) → (t ≡ false → P) → P
+by_test true holds fails = holds refl
+by_test false holds fails = fails refl
+
 -- the place that reading gives; a segment that was read before has none
 abbrev pub place_in : Incoming → Option ℕ
 place_in (unread octets) = (reading octets).place
@@ -87,11 +96,9 @@ module _ (k : Connection) (clock : ℕ) where
   -- the place is reading's
   pub place_passed : (i : Incoming) → (arrived k clock i).place ≡ place_in i
   place_passed (read s) = (read_passes s).no_place
-  place_passed (unread octets) = go (reading octets).fields refl
-    where
-      go : (fields : Option Segment) → (reading octets).fields ≡ fields → (arriving k clock octets).place ≡ (reading octets).place
-      go none is = ap (λ (a : Arrival). a.place) (unreadable_refused k clock octets is)
-      go (some s) is = (passes (unread octets) s is).no_place ∙ sym (read_no_place (unread octets) s is)
+  place_passed (unread octets) =
+      by_fields (reading octets).fields (λ is. ap (λ (a : Arrival). a.place) (unreadable_refused k clock octets is))
+      (λ s is. (passes (unread octets) s is).no_place ∙ sym (read_no_place (unread octets) s is))
 
   -- the count comes with every verdict
   pub verdict_skips : (i : Incoming) (s : Segment) → fields_of i ≡ some s → ((arrived k clock i).decision.action ≡ refuse → ⊥)
@@ -108,11 +115,9 @@ module _ (k : Connection) (clock : ℕ) where
   -- and with no refusal
   pub refusal_skips_none : (i : Incoming) → (arrived k clock i).decision.action ≡ refuse → (arrived k clock i).skipped ≡ none
   refusal_skips_none (read s) refuses = (read_passes s).with_refusal (ap is_refusal refuses)
-  refusal_skips_none (unread octets) refuses = go (reading octets).fields refl
-    where
-      go : (fields : Option Segment) → (reading octets).fields ≡ fields → (arriving k clock octets).skipped ≡ none
-      go none is = ap (λ (a : Arrival). a.skipped) (unreadable_refused k clock octets is)
-      go (some s) is = (passes (unread octets) s is).with_refusal (ap is_refusal refuses)
+  refusal_skips_none (unread octets) refuses =
+      by_fields (reading octets).fields (λ is. ap (λ (a : Arrival). a.skipped) (unreadable_refused k clock octets is))
+      (λ s is. (passes (unread octets) s is).with_refusal (ap is_refusal refuses))
 
 -- the same of an opening
 record OpensPassing (syn : Segment) (a : OpeningAnswer) : Type 0 where
@@ -146,11 +151,9 @@ module _ (own : Setup) (clock : ℕ) where
   pub place_opened : (i : Incoming) → exceed_limits own.offers own.window ≡ false → (opened_by own clock i).place ≡ place_in i
   unfolding opening Option-elim
   place_opened (read syn) within = (opens_passes (read syn) syn refl).no_place
-  place_opened (unread octets) within = go (reading octets).fields refl
-    where
-      go : (fields : Option Segment) → (reading octets).fields ≡ fields → (opening own clock octets).place ≡ (reading octets).place
-      go none is = rw (within, is) refl
-      go (some syn) is = (opens_passes (unread octets) syn is).no_place ∙ sym (read_no_place (unread octets) syn is)
+  place_opened (unread octets) within =
+      by_fields (reading octets).fields (λ is. rw (within, is) refl)
+      (λ syn is. (opens_passes (unread octets) syn is).no_place ∙ sym (read_no_place (unread octets) syn is))
 
   -- the count comes with an opened record, and with no refusal
   pub opened_skips : (i : Incoming) (syn : Segment) → fields_of i ≡ some syn → (opened_by own clock i).number ≡ 0
@@ -164,11 +167,8 @@ module _ (own : Setup) (clock : ℕ) where
 
   pub refused_skips_none : (i : Incoming) → ((opened_by own clock i).number ≡ 0 → ⊥) → (opened_by own clock i).skipped ≡ none
   refused_skips_none (read syn) refuses = (opens_passes (read syn) syn refl).with_refusal refuses
-  refused_skips_none (unread octets) refuses = go (reading octets).fields refl
-    where
-      go : (fields : Option Segment) → (reading octets).fields ≡ fields → (opening own clock octets).skipped ≡ none
-      go none is = unread_skips_none octets is
-      go (some syn) is = (opens_passes (unread octets) syn is).with_refusal refuses
+  refused_skips_none (unread octets) refuses =
+      by_fields (reading octets).fields (unread_skips_none octets) (λ syn is. (opens_passes (unread octets) syn is).with_refusal refuses)
 
 -- so many unknown options stand in the octets, at most 20
 pub record Counts (octets : List ℕ) (n : ℕ) : Type 0 where
@@ -185,11 +185,8 @@ module _ (octets : List ℕ) where
 
   -- a place that reading gives comes with reading's number
   unread_fields : (place : ℕ) → (reading octets).place ≡ some place → (reading octets).fields ≡ none
-  unread_fields place e = go (reading octets).fields refl
-    where
-      go : (fields : Option Segment) → (reading octets).fields ≡ fields → (reading octets).fields ≡ none
-      go none is = is
-      go (some s) is = absurd (some-ne-none place (sym e ∙ read_no_place (unread octets) s is))
+  unread_fields place e =
+      by_fields (reading octets).fields (λ is. is) (λ s is. absurd (some-ne-none place (sym e ∙ read_no_place (unread octets) s is)))
 
   module _ (k : Connection) (clock : ℕ) where
     pub arrival_fault : (place : ℕ) → (arriving k clock octets).place ≡ some place → FaultThere octets (arriving k clock octets).decision.number place
@@ -199,37 +196,31 @@ module _ (octets : List ℕ) where
         subst (λ (n : ℕ). FaultThere octets n place) (sym (ap (λ (a : Arrival). a.decision.number) refuses)) (fault_there octets place given)
 
     pub arrival_counts : (n : ℕ) → (arriving k clock octets).skipped ≡ some n → Counts octets n
-    arrival_counts n e = go (reading octets).fields refl
-      where
-        go : (fields : Option Segment) → (reading octets).fields ≡ fields → Counts octets n
-        go none is = absurd (some-ne-none n (sym e ∙ ap (λ (a : Arrival). a.skipped) (unreadable_refused k clock octets is)))
-        go (some s) is = by (is_refusal (arriving k clock octets).decision.action) refl
-          where
-            by : (t : Bool) → is_refusal (arriving k clock octets).decision.action ≡ t → Counts octets n
-            by true refuses = absurd (some-ne-none n (sym e ∙ (passes k clock (unread octets) s is).with_refusal refuses))
-            by false verdict = counts s _ n is ((passes k clock (unread octets) s is).with_verdict verdict) e
+    arrival_counts n e =
+        by_fields (reading octets).fields
+        (λ is. absurd (some-ne-none n (sym e ∙ ap (λ (a : Arrival). a.skipped) (unreadable_refused k clock octets is))))
+        (λ s is.
+        let passed = passes k clock (unread octets) s is in
+        by_test (is_refusal (arriving k clock octets).decision.action) (λ refuses. absurd (some-ne-none n (sym e ∙ passed.with_refusal refuses)))
+        (λ verdict. counts s _ n is (passed.with_verdict verdict) e))
 
   module _ (own : Setup) (clock : ℕ) where
     pub opening_fault : (place : ℕ) → (opening own clock octets).place ≡ some place → FaultThere octets (opening own clock octets).number place
-    opening_fault place e = go (exceed_limits own.offers own.window) refl
-      where
-        go : (t : Bool) → exceed_limits own.offers own.window ≡ t → FaultThere octets (opening own clock octets).number place
-        go true exceeds = absurd (some-ne-none place (sym e ∙ limits_no_place own clock (unread octets) exceeds))
-        go false within =
-            let given = sym (place_opened own clock (unread octets) within) ∙ e in
-            let refuses = unreadable_not_opened own clock within octets (unread_fields place given) in
-            subst (λ (n : ℕ). FaultThere octets n place) (sym refuses) (fault_there octets place given)
+    opening_fault place e =
+        by_test (exceed_limits own.offers own.window)
+        (λ exceeds. absurd (some-ne-none place (sym e ∙ limits_no_place own clock (unread octets) exceeds)))
+        (λ within.
+        let given = sym (place_opened own clock (unread octets) within) ∙ e in
+        let refuses = unreadable_not_opened own clock within octets (unread_fields place given) in
+        subst (λ (n : ℕ). FaultThere octets n place) (sym refuses) (fault_there octets place given))
 
     pub opening_counts : (n : ℕ) → (opening own clock octets).skipped ≡ some n → Counts octets n
-    opening_counts n e = go (eqb (opening own clock octets).number 0) refl
-      where
-        opened : (fields : Option Segment) → (reading octets).fields ≡ fields → (opening own clock octets).number ≡ 0 → Counts octets n
-        opened none is opens = absurd (some-ne-none n (sym e ∙ unread_skips_none own clock octets is))
-        opened (some syn) is opens = counts syn _ n is (opened_skips own clock (unread octets) syn is opens) e
-
-        go : (t : Bool) → eqb (opening own clock octets).number 0 ≡ t → Counts octets n
-        go true z = opened (reading octets).fields refl (eqb-true _ 0 z)
-        go false z = absurd (some-ne-none n (sym e ∙ refused_skips_none own clock (unread octets) (eqb-false _ 0 z)))
+    opening_counts n e =
+        by_test (eqb (opening own clock octets).number 0)
+        (λ opens.
+        by_fields (reading octets).fields (λ is. absurd (some-ne-none n (sym e ∙ unread_skips_none own clock octets is)))
+        (λ syn is. counts syn _ n is (opened_skips own clock (unread octets) syn is (eqb-true _ 0 opens)) e))
+        (λ refuses. absurd (some-ne-none n (sym e ∙ refused_skips_none own clock (unread octets) (eqb-false _ 0 refuses))))
 
 -- Each case that the code answers with holds the count, or the refusal with its place, as it is.
 pub opened_holds : (k : Connection) (skipped : ℕ) → (shown_open (Ok (record { connection = k; skipped = skipped }))).skipped ≡ some skipped

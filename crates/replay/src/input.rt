@@ -1,5 +1,5 @@
 // A call read from standard input: the octet that names it, the length of its body, and the body.
-use crate::call::Call;
+use crate::call::{Call, UnknownCall};
 use octets::Number;
 use std::io;
 use std::io::{ErrorKind, Read};
@@ -17,10 +17,16 @@ pub enum InputError {
 
 impl From<io::Error> for InputError {
     fn from(e: io::Error) -> InputError {
-        match e.kind() {
-            ErrorKind::UnexpectedEof => InputError::Bad,
-            _ => InputError::Io(e),
+        if e.kind() == ErrorKind::UnexpectedEof {
+            return InputError::Bad;
         }
+        InputError::Io(e)
+    }
+}
+
+impl From<UnknownCall> for InputError {
+    fn from(_: UnknownCall) -> InputError {
+        InputError::Bad
     }
 }
 
@@ -30,6 +36,7 @@ pub fn next<'a>(
     space: &'a mut [u8],
 ) -> Result<Option<(Call, &'a mut [u8])>, InputError> {
     let mut head = [0; 5];
+    // A script ends before the first octet of a call; what is left of the head, and the body, must be there.
     let got = script.read(&mut head)?;
     if got == 0 {
         return Ok(None);
@@ -40,8 +47,9 @@ pub fn next<'a>(
         return Err(InputError::Bad);
     };
     script.read_exact(body)?;
-    match Call::try_from(head[0]) {
-        Ok(call) if call.fixed_fields(body) <= length => Ok(Some((call, body))),
-        _ => Err(InputError::Bad),
+    let call = Call::try_from(head[0])?;
+    if length < call.fixed_fields(body) {
+        return Err(InputError::Bad);
     }
+    Ok(Some((call, body)))
 }

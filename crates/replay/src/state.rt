@@ -13,7 +13,7 @@ pub struct State {
     pub timer: Timer,
 }
 
-// No clause says more of a state than that its record is sound.
+// The record of every state is sound; a clause sees nothing else of a state.
 impl Model for State {
     ghost Value = { Unit {0} };
 

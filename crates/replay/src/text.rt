@@ -1,4 +1,4 @@
-// How the fields of a line are printed: in decimal, one space apart.
+// How the fields of a line are printed: in decimal, one space apart. They are parts of one print, since each print is a call of the system.
 use connection::Connection;
 use rto::Timer;
 use segment::{Flags, Segment};

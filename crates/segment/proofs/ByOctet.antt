@@ -1,5 +1,5 @@
 -- The rules by the octets of the header that the code tests. Assumes nothing.
-use mathlib.Core.Bool.{true, false, cond}
+use mathlib.Core.Bool.{Bool, true, false, cond}
 use mathlib.Core.List.{List, [], ◌∷◌}
 use mathlib.Core.Path.{◌≡◌, sym, ap, ◌∙◌}
 use Prim.Native.Nat.{ℕ, zero, suc, ◌+◌, ◌-◌, ◌*◌, ◌≤◌, ◌<◌}
@@ -14,8 +14,13 @@ use Rattle.segment.specs.Grammar.{broken, end, is_broken, length_least, length_m
 use Rattle.segment.specs.Reading.{data_offset, option_octets}
 
 -- the part of a slice from n to its end, `&l[n..]`
-pub to_the_end : (n : ℕ) (l : List ℕ) → take (length l - n) (drop n l) ≡ drop n l
+to_the_end : (n : ℕ) (l : List ℕ) → take (length l - n) (drop n l) ≡ drop n l
 to_the_end n l = take_all (length l - n) (drop n l) (simp length-drop (omega arith))
+
+-- what a test of the octets left, `is_broken(&header[at..])`, says
+pub tested : (header : List ℕ) (at : ℕ) {answer t : Bool} → answer ≡ is_broken (take (length header - at) (drop at header)) → answer ≡ t
+    → is_broken (drop at header) ≡ t
+tested header at e is = sym (rw (to_the_end at header) at e) ∙ is
 
 pub drop_further : (m n : ℕ) (l : List ℕ) → drop n (drop m l) ≡ drop (m + n) l
 drop_further zero n l = ap (λ (k : ℕ). drop k l) (sym (zero-add n))

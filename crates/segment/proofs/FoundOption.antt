@@ -15,7 +15,6 @@ use borrow.Author.Tests.{eq-eqb, eqb-true}
 use Rattle.segment.specs.Grammar.{Step, broken, end, length_least, nop, whole}
 use Rattle.segment.specs.Options.{Found, found, nothing, option_in, stands_in}
 use Rattle.segment.specs.Reading.{found_option, matching, reading, steps_of}
-use Rattle.segment.specs.Internal.{place_of}
 use Rattle.segment.specs.Part.{IsPart, part_of}
 use Rattle.segment.proofs.Induction.{Steps, along_rules}
 use Rattle.segment.proofs.Inside.{none_found, octets_of}
@@ -132,7 +131,8 @@ module _ (kinds : List ℕ) where
       go (inl none) = none_found at octets (sym none.1 ∙ e)
       go (inr (a, o, f)) =
           let same : found a o ≡ found at octets = sym (first_option steps a o f) ∙ e in
-          subst (λ (k : ℕ). First kinds steps k octets) (ap place_of same) (subst (First kinds steps a) (ap octets_of same) f)
+          let place : a ≡ at = cc in
+          subst (λ (k : ℕ). First kinds steps k octets) place (subst (First kinds steps a) (ap octets_of same) f)
 
   -- none is found exactly if none is listed
   pub nothing_if : (steps : List Step) → NoneListed kinds steps → option_in kinds steps ≡ nothing
@@ -208,5 +208,5 @@ module _ (s kinds : List ℕ) (r : Bor (List ℕ)) (from : ℕ × ℕ) (p : IsPa
       let is = first_found s kinds at octets e f in
       (p.0 ∙ ap (λ (g : Found). (part_of g).1) is, p.1, p.2 ∙ ap (λ (g : Found). from.1 + (part_of g).0) is)
 
-  pub empty_part_lem : ((reading s).number ≡ 0 → NoneListed kinds (steps_of s)) → r.now ≡ []
-  empty_part_lem none = p.0 ∙ ap (λ (g : Found). (part_of g).1) (nothing_found s kinds none)
+  pub empty_part : ((reading s).number ≡ 0 → NoneListed kinds (steps_of s)) → r.now ≡ []
+  empty_part none = p.0 ∙ ap (λ (g : Found). (part_of g).1) (nothing_found s kinds none)

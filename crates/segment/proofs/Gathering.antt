@@ -2,16 +2,18 @@
 use mathlib.Core.Bool.{Bool, true, false, cond, not, ◌||◌, true≢false}
 use mathlib.Core.List.{List, [], ◌∷◌, ◌++◌}
 use mathlib.Core.Path.{◌≡◌, refl, sym, ap, ◌∙◌}
-use Prim.Native.Nat.{ℕ, ◌+◌, ◌<◌}
+use Prim.Native.Nat.{ℕ, ◌+◌}
 use native.Mathlib.Omega.{arith}
 use lib.Dec.{eqb}
 use lib.ListN.{get_or, length, length-append}
+use Rattle.std.specs.Prelude.{Some, None}
 use borrow.Author.Tests.{eqb-true}
 use Rattle.laws.specs.Lists.{filter}
 use Rattle.laws.proofs.Lists.{filter_append}
 use Rattle.segment.specs.Grammar.{Step, nop, end, whole, broken}
 use Rattle.segment.specs.Options.{Found, found, is_found, is_known, is_repeated, is_skipped, nothing, option_in, option_of, skipped_in, stands_in}
 use Rattle.segment.specs.Internal.{Noted, place_of}
+use Rattle.segment.specs.declared.notes.Notes.{Notes}
 
 abbrev pub first_of : Found → Found → Found
 first_of (found at octets) later = found at octets
@@ -67,32 +69,21 @@ module _ (before : List Step) (at : ℕ) (octets : List ℕ) where
       go true = omega arith
       go false = refl
 
-  -- an option past the start adds none at place 0
-  past_start_after : ((kinds o : List ℕ) → option_in kinds before ≡ found 0 o → ⊥) → 0 < at → (kinds o : List ℕ) → option_in kinds after ≡ found 0 o → ⊥
-  unfolding option_in
-  past_start_after p h kinds o e = go (option_in kinds before) refl (stands_in kind kinds) (sym (option_in_append kinds before (whole at octets ∷ [])) ∙ e)
-    where
-      go : (f : Found) → option_in kinds before ≡ f → (t : Bool) → first_of f (cond t (found at octets) nothing) ≡ found 0 o → ⊥
-      go (found a x) b t e = p kinds x (b ∙ ap (λ (k : ℕ). found k x) (ap place_of e))
-      go nothing b true e = omega (arith, ap place_of e)
-      go nothing b false e = true≢false (sym (ap is_found e))
-
   place_after : (k : ℕ) → (eqb kind k ≡ true → is_found (option_of k before) ≡ false)
-      → place_of (option_of k after) ≡ cond (eqb kind k) at (place_of (option_of k before))
+      → place_of (option_of k after) ≡ cond (eqb kind k) (Some at) (place_of (option_of k before))
   place_after k new = ap place_of (option_after k new) ∙ go (eqb kind k)
     where
-      go : (t : Bool) → place_of (cond t (found at octets) (option_of k before)) ≡ cond t at (place_of (option_of k before))
+      go : (t : Bool) → place_of (cond t (found at octets) (option_of k before)) ≡ cond t (Some at) (place_of (option_of k before))
       go true = refl
       go false = refl
 
   -- notes with one more option: its place at its kind where that is known, otherwise one more skipped
-  pub noted_after : (notes later : List ℕ) → Noted before notes → 0 < at → is_repeated before kind ≡ false
-      → ((k : ℕ) → is_known k ≡ true → get_or later k 0 ≡ cond (eqb kind k) at (get_or notes k 0))
-      → get_or later 10 0 ≡ cond (is_known kind) (get_or notes 10 0) (get_or notes 10 0 + 1)
+  pub noted_after : (notes later : Notes) → Noted before notes → is_repeated before kind ≡ false
+      → ((k : ℕ) → is_known k ≡ true → get_or later.places k None ≡ cond (eqb kind k) (Some at) (get_or notes.places k None))
+      → later.skipped ≡ cond (is_known kind) notes.skipped (notes.skipped + 1)
       → Noted after later
-  noted_after notes later p past new places skipped = record {
+  noted_after notes later p new places skipped = record {
     places = λ k known.
-        places k known ∙ ap (cond (eqb kind k) at) (p.places k known) ∙ sym (place_after k (new_kind new k known));
+        places k known ∙ ap (cond (eqb kind k) (Some at)) (p.places k known) ∙ sym (place_after k (new_kind new k known));
     skipped = skipped ∙ ap (λ (n : ℕ). cond (is_known kind) n (n + 1)) p.skipped ∙ sym skipped_after;
-    past_start = past_start_after p.past_start past;
   }

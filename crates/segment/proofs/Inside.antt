@@ -13,7 +13,6 @@ use denote.Ref.{Bor}
 use borrow.Author.Tests.{eqb-true, ne_eqb}
 use Rattle.segment.specs.Grammar.{Step, is_broken, length_least, length_most, whole}
 use Rattle.segment.specs.Options.{Found, found, is_found, nothing, option_in, stands_in}
-use Rattle.segment.specs.Internal.{place_of}
 use Rattle.segment.specs.Part.{Inside, IsPart, part_of}
 use Rattle.segment.specs.Reading.{data_offset, found_option, matching, option_octets, reading, steps_of}
 use Rattle.segment.proofs.Readable.{passed}
@@ -75,7 +74,7 @@ module _ (kinds left : List ℕ) (b : is_broken left ≡ false) where
       go : (t : Bool) → stands_in (get_or (take n left) 0 0) kinds ≡ t → cond t (found at (take n left)) (option_in kinds later) ≡ found place octets
           → (j : ℕ) × (place ≡ at + j) × Within kinds left j octets
       go true s e =
-          let same : at ≡ place = ap place_of e in
+          let same : at ≡ place = cc in
           (0, omega arith, subst (Within kinds left 0) (ap octets_of e) (at_start s))
       go false s e =
           let w = finds place octets e in

@@ -6,12 +6,9 @@ use Prim.Native.Nat.{ℕ, ◌+◌, ◌≤◌, ◌<◌}
 use native.Mathlib.Omega.{arith}
 use lib.ListN.{drop, get_or, length, take}
 use denote.Ref.{Bor}
-use borrow.Author.Tests.{eq-eqb, ne_eqb}
 use Rattle.segment.specs.Grammar.{is_broken, option_rule, padding_rule}
 use Rattle.segment.specs.Options.{Found, found, nothing, option_in, stands_in}
-use Rattle.segment.specs.Internal.{Reaches, is_listed}
 use Rattle.segment.specs.Part.{IsPart}
-use Rattle.segment.specs.Reading.{matching}
 use Rattle.segment.proofs.ByOctet.{kind_kept, option_broken, option_whole, padding_end, padding_nop, padding_past}
 
 module _ (kinds header : List ℕ) (at : ℕ) where
@@ -41,18 +38,6 @@ module _ (kinds header : List ℕ) (at : ℕ) where
       ≡ cond (stands_in (get_or header at 0) kinds) (found at (take n (drop at header))) (option_in kinds (padding_rule (at + n) (drop (at + n) header)))
   unfolding option_in
   whole_found e = ap (option_in kinds) (option_whole header at e) ∙ simp (kind_kept header at e)
-
--- by how far a step reaches
-module _ (kinds header : List ℕ) (at n : ℕ) (r : Reaches header at n) where
-  pub nothing_more : n ≡ 0 → option_in (matching kinds) (padding_rule at (drop at header)) ≡ nothing
-  nothing_more z = r.finds kinds ∙ simp (eq-eqb n 0 z)
-
-  pub found_here : (n ≡ 0 → ⊥) → is_listed kinds (get_or header at 0) ≡ true → option_in (matching kinds) (padding_rule at (drop at header)) ≡ found at (take n (drop at header))
-  found_here some l = r.finds kinds ∙ simp (ne_eqb n 0 some, l)
-
-  pub found_later : (n ≡ 0 → ⊥) → is_listed kinds (get_or header at 0) ≡ false
-      → option_in (matching kinds) (padding_rule at (drop at header)) ≡ option_in (matching kinds) (padding_rule (at + n) (drop (at + n) header))
-  found_later some l = r.finds kinds ∙ simp (ne_eqb n 0 some, l)
 
 -- a part of what starts where the slice does is a part of the slice
 pub part_of_start : (r : Bor (List ℕ)) (from : ℕ × ℕ) (f : Found) → IsPart r (from.0, 0 + from.1) f → IsPart r from f

@@ -139,7 +139,7 @@ module _ (s : List ℕ) where
   answered e count = (ap (λ (a : Answer Segment). a.number) e, ap (λ (a : Answer Segment). a.place) e, count)
 
   early : (n : ℕ) → stands_in n (1 ∷ 2 ∷ 3 ∷ []) ≡ true → reading s ≡ refused n → Answered n none 0
-  early n one_of_lem e = answered e (ap (λ (r : Report). r.steps) (no_steps s n one_of_lem e))
+  early n listed e = answered e (ap (λ (r : Report). r.steps) (no_steps s n listed e))
 
   pub given_only : (n : ℕ) (place : Option ℕ) (steps : ℕ) → Given s n place steps → Answered n place steps
   unfolding reading stands_in

@@ -43,9 +43,9 @@ module _ (s : List ℕ) (w : Segment) (e : reading s ≡ read_as w) where
   options_are = ap (λ (x : Segment). x.options) (fields_are s w e)
 
   -- the option of its kind is that one
-  is_option_lem : (at : ℕ) (octets : List ℕ) → RightLength (get_or octets 0 0) (length octets) → Memᴰ (whole at octets) (steps_of s)
+  the_option : (at : ℕ) (octets : List ℕ) → RightLength (get_or octets 0 0) (length octets) → Memᴰ (whole at octets) (steps_of s)
       → option_of (get_or octets 0 0) (steps_of s) ≡ found at octets
-  is_option_lem at octets right m =
+  the_option at octets right m =
       let there = split_at (whole at octets) (steps_of s) m in
       let none : fault_at there.0 (whole at octets) ≡ 0 =
       judged_only there.0 (whole at octets) 0 (faultless s (ap (λ (a : Answer Segment). a.number) e) there.0 (whole at octets) there.1 there.2) in
@@ -64,25 +64,25 @@ module _ (s : List ℕ) (w : Segment) (e : reading s ≡ read_as w) where
   unfolding options_of big_endian number_at
   mss_value at n m =
       ap (λ (o : Options). o.mss) options_are
-      ∙ ap mss_of (is_option_lem at (2 ∷ 4 ∷ big_endian 2 n) mss m)
+      ∙ ap mss_of (the_option at (2 ∷ 4 ∷ big_endian 2 n) mss m)
       ∙ ap Some (number_at_big_endian 1 n [])
 
   pub scale_value : (at shift : ℕ) → Memᴰ (whole at (3 ∷ 3 ∷ shift ∷ [])) (steps_of s) → w.options.scale ≡ Some shift
   unfolding options_of
   scale_value at shift m =
-      ap (λ (o : Options). o.scale) options_are ∙ ap scale_of (is_option_lem at (3 ∷ 3 ∷ shift ∷ []) window_scale m)
+      ap (λ (o : Options). o.scale) options_are ∙ ap scale_of (the_option at (3 ∷ 3 ∷ shift ∷ []) window_scale m)
 
   pub permitted_value : (at : ℕ) → Memᴰ (whole at (4 ∷ 2 ∷ [])) (steps_of s) → w.options.permitted ≡ true
   unfolding options_of
   permitted_value at m =
-      ap (λ (o : Options). o.permitted) options_are ∙ ap is_found (is_option_lem at (4 ∷ 2 ∷ []) sack_permitted m)
+      ap (λ (o : Options). o.permitted) options_are ∙ ap is_found (the_option at (4 ∷ 2 ∷ []) sack_permitted m)
 
   pub timestamps_value : (at value echoed : ℕ) → Memᴰ (whole at (8 ∷ 10 ∷ (big_endian 4 value ++ big_endian 4 echoed))) (steps_of s)
       → w.options.timestamps ≡ Some (record { value = record { 0 = value }; echoed = record { 0 = echoed } })
   unfolding options_of big_endian number_at
   timestamps_value at value echoed m =
       ap (λ (o : Options). o.timestamps) options_are
-      ∙ ap timestamps_of (is_option_lem at (8 ∷ 10 ∷ (big_endian 4 value ++ big_endian 4 echoed)) timestamps m)
+      ∙ ap timestamps_of (the_option at (8 ∷ 10 ∷ (big_endian 4 value ++ big_endian 4 echoed)) timestamps m)
       ∙ (λ i. Some (record { value = record { 0 = number_at_big_endian 3 value [] i }; echoed = record { 0 = number_at_big_endian 3 echoed [] i } }))
 
   -- one to four blocks, in their order
@@ -96,7 +96,7 @@ module _ (s : List ℕ) (w : Segment) (e : reading s ≡ read_as w) where
           → w.options.blocks ≡ blocks_of (found at octets)
       said octets five right m =
           ap (λ (o : Options). o.blocks) options_are
-          ∙ ap (λ (f : Found). blocks_of f) (rw five at (is_option_lem at octets (rw five right) m))
+          ∙ ap (λ (f : Found). blocks_of f) (rw five at (the_option at octets (rw five right) m))
 
       go : (rs : List Range) → length rs ≤ 3 → Memᴰ (whole at (5 ∷ (8 * length (a ∷ rs) + 2) ∷ edges_of (a ∷ rs))) (steps_of s)
           → w.options.blocks ≡ a ∷ rs

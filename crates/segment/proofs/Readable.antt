@@ -8,7 +8,7 @@ use native.Mathlib.Omega.{arith}
 use lib.Dec.{eqb, ltb}
 use lib.ListN.{get_or, length, length-take}
 use Rattle.std.specs.Prelude.{Err}
-use borrow.Author.Tests.{eqb-false, eqb-true, le-ltb, lt-ltb, ltb-false, ne_eqb}
+use borrow.Author.Tests.{eqb-false, le-ltb, lt-ltb, ltb-false, ne_eqb}
 use Rattle.laws.proofs.Choices.{neither}
 use Rattle.segment.specs.Grammar.{Step, broken, end, nop, whole}
 use Rattle.segment.specs.Options.{Fault, Found, block_at, blocks_from, blocks_of, fault_at, fault_in, found, is_repeated, is_wrong_length, nothing, option_in, option_of, options_of, skipped_in, stands_in, step_place, up_to_fault}
@@ -49,20 +49,20 @@ module _ {A : Type 0} where
 
 -- it is answered by its options
 module _ (s : List ℕ) (p : Passed s) where
-  pub by_options_lem : reading s ≡ with_fields (segment_of s (4 * data_offset s) (skipped_in (steps_of s))) (options_read (steps_of s))
+  pub answered_by_options : reading s ≡ with_fields (segment_of s (4 * data_offset s) (skipped_in (steps_of s))) (options_read (steps_of s))
   unfolding reading
-  by_options_lem =
+  answered_by_options =
       not_below (length s) _ _ _ (omega (arith, p.long))
       ∙ not_below _ (length s) _ _ (omega (arith, p.short))
       ∙ neither_below (data_offset s) _ (length s) _ _ _ (omega (arith, p.offset_least)) (omega (arith, p.offset_most))
 
   pub read_if : fault_in [] (steps_of s) ≡ none → reading s ≡ read_as (segment_of s (4 * data_offset s) (skipped_in (steps_of s)) (options_of (steps_of s)))
   unfolding options_read Option-elim
-  read_if e = by_options_lem ∙ rw e
+  read_if e = answered_by_options ∙ rw e
 
   pub refused_if : (fault : Fault) → fault_in [] (steps_of s) ≡ some fault → reading s ≡ refused_at fault
   unfolding options_read Option-elim
-  refused_if fault e = by_options_lem ∙ rw e
+  refused_if fault e = answered_by_options ∙ rw e
 
 -- Number 0 is no refusal, so each test that refuses has failed.
 not_refused : {A : Type 0} (test : Bool) (n : ℕ) (rest : Answer A) → (n ≡ 0 → ⊥) → (cond test (refused n) rest).number ≡ 0
@@ -97,17 +97,6 @@ fault_range before (step ∷ later) fault e = go (eqb (fault_at before step) 0) 
         let range = fault_at_range before step (eqb-false _ 0 z) in
         (omega (arith, same, range.0), omega (arith, same, range.1))
 
--- what is answered beside E4, E5 and E6 is no fault
-pub zero_left : (steps : List Step) (number place : ℕ) → fault_in [] steps ≡ cond (eqb number 0) none (some (record { number = number; place = place }))
-    → (number ≡ 4 → ⊥) → (number ≡ 5 → ⊥) → (number ≡ 6 → ⊥) → number ≡ 0
-zero_left steps number place e four five six = go (eqb number 0) refl e
-  where
-    go : (t : Bool) → eqb number 0 ≡ t → fault_in [] steps ≡ cond t none (some (record { number = number; place = place })) → number ≡ 0
-    go true z e = eqb-true number 0 z
-    go false z e =
-        let range = fault_range [] steps _ e in
-        absurd (omega (arith, range.0, range.1, four, five, six))
-
 -- without one the options are read
 no_fault : (steps : List Step) → (options_read steps).number ≡ 0 → fault_in [] steps ≡ none
 unfolding options_read Option-elim
@@ -128,7 +117,7 @@ no_steps s n early e = λ i. record { answer = e i; steps = none i }
 -- whatever else is answered, the steps up to and with the first fault count
 pub steps_if : (s : List ℕ) → Passed s → counted_steps s ≡ up_to_fault [] (steps_of s)
 unfolding counted_steps options_read Option-elim stands_in
-steps_if s p = rw (by_options_lem s p) (go (fault_in [] (steps_of s)) refl)
+steps_if s p = rw (answered_by_options s p) (go (fault_in [] (steps_of s)) refl)
   where
     go : (f : Option Fault) → fault_in [] (steps_of s) ≡ f
         → cond (stands_in (Option-elim f (read_as (options_of (steps_of s))) refused_at).number (1 ∷ 2 ∷ 3 ∷ [])) [] (up_to_fault [] (steps_of s))
@@ -156,7 +145,7 @@ module _ (s : List ℕ) (e : (reading s).number ≡ 0) where
 
   pub read_is : reading s ≡ read_as (segment_of s (4 * data_offset s) (skipped_in (steps_of s)) (options_of (steps_of s)))
   read_is =
-      let options = ap (λ (a : Answer Segment). a.number) (by_options_lem s passed) in
+      let options = ap (λ (a : Answer Segment). a.number) (answered_by_options s passed) in
       read_if s passed (no_fault (steps_of s) (sym options ∙ e))
 
 -- however long a SACK option is

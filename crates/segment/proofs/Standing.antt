@@ -1,5 +1,5 @@
 -- The known options of a segment without fault stand in it, each with a length of its kind, and have their values there. Assumes nothing.
-use mathlib.Core.Bool.{Bool, true, false, cond, not, ◌&&◌, ◌||◌, true≢false}
+use mathlib.Core.Bool.{Bool, true, false, cond, ◌&&◌, ◌||◌, true≢false}
 use mathlib.Core.List.{List, [], ◌∷◌, ◌++◌}
 use mathlib.Core.Option.{Option, none, some, some-ne-none}
 use mathlib.Core.Path.{◌≡◌, refl, sym, ap, ◌∙◌}
@@ -8,6 +8,7 @@ use native.Mathlib.Nat.{add-suc}
 use native.Mathlib.Omega.{arith}
 use lib.Dec.{eqb, leb}
 use lib.ListN.{get_or, length}
+use Rattle.std.specs.Prelude.{Some, None, is_some}
 use borrow.Author.Tests.{eqb-true, leb-true, not-false}
 use Rattle.octets.specs.Octets.{number_at}
 use Rattle.segment.specs.Grammar.{Step, broken, end, nop, whole}
@@ -16,32 +17,20 @@ use Rattle.segment.specs.Internal.{Stands, StandAll, StandsIf, place_of}
 use Rattle.segment.specs.Reading.{data_offset, steps_of}
 use Rattle.segment.proofs.Inside.{in_segment, none_found, octets_of}
 
--- A place that is 0 is that of no option, and any other that of one.
-module _ (s : List ℕ) (kind n place : ℕ) (f : Found) (e : place ≡ place_of f) (stands : StandsIf s kind n f) where
-  pub none_there : place ≡ 0 → f ≡ nothing
-  none_there z = go f refl
-    where
-      go : (g : Found) → f ≡ g → f ≡ nothing
-      go nothing same = same
-      go (found at octets) same = absurd (omega (arith, (stands at octets same).inside.after_header, e, ap place_of same))
+-- an option has a place exactly if it is there
+pub none_there : (f : Found) → None ≡ place_of f → f ≡ nothing
+none_there nothing e = refl
+none_there (found at octets) e = cc
 
-  pub one_there : (place ≡ 0 → ⊥) → (octets : List ℕ) × (f ≡ found place octets) × Stands s kind n place octets
-  one_there given = go f refl
-    where
-      go : (g : Found) → f ≡ g → (octets : List ℕ) × (f ≡ found place octets) × Stands s kind n place octets
-      go nothing same = absurd (given (e ∙ ap place_of same))
-      go (found at octets) same =
-          let here : f ≡ found place octets = same ∙ ap (λ (k : ℕ). found k octets) (sym (e ∙ ap place_of same)) in
-          (octets, here, stands place octets here)
+pub one_there : (place : ℕ) (f : Found) → Some place ≡ place_of f → (octets : List ℕ) × (f ≡ found place octets)
+one_there place nothing e = cc
+one_there place (found at octets) e =
+    let same : at ≡ place = cc in
+    (octets, ap (λ (k : ℕ). found k octets) same)
 
--- whether a noted place is one tells whether the option is there
-pub noted_found : (f : Found) → ((octets : List ℕ) → f ≡ found 0 octets → ⊥) → not (eqb (place_of f) 0) ≡ is_found f
-noted_found nothing p = refl
-noted_found (found at octets) p = go (eqb at 0) refl
-  where
-    go : (t : Bool) → eqb at 0 ≡ t → not t ≡ true
-    go true z = absurd (p octets (ap (λ (k : ℕ). found k octets) (eqb-true at 0 z)))
-    go false z = refl
+pub place_found : (f : Found) → is_some (place_of f) ≡ is_found f
+place_found nothing = refl
+place_found (found at octets) = refl
 
 -- a number of an option is the one in the segment
 pub number_there : {s : List ℕ} {kind n place : ℕ} {octets : List ℕ} → Stands s kind n place octets → (w i : ℕ) → i + w ≤ length octets

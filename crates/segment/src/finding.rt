@@ -1,7 +1,7 @@
 // An option found by its kind.
-ghost use Rattle.std.specs.Prelude.{◌≡◌, ◌<◌, drop, length};
+ghost use Rattle.std.specs.Prelude.{◌≡◌, drop};
 ghost use Rattle.segment.specs.Grammar.{padding_rule};
-ghost use Rattle.segment.specs.Options.{option_in, stands_in};
+ghost use Rattle.segment.specs.Options.{option_in};
 ghost use Rattle.segment.specs.Internal.{Reaches, is_listed};
 ghost use Rattle.segment.specs.Part.{IsPart};
 ghost use Rattle.segment.specs.Reading.{matching};
@@ -15,11 +15,7 @@ pub fn first_listed<'a>(header: &'a [u8], kinds: &[u8]) -> &'a [u8]
     ensures { IsPart result header.entry.ref_ptr (option_in (matching kinds.now) (padding_rule 20 (drop 20 header.now))) }
 {
     let mut at = FIXED_HEADER;
-    while at < header.len() {
-        let n = step_octets(header, at);
-        if n == 0 {
-            return &header[0..0];
-        }
+    while let Some(n) = step_octets(header, at) {
         if is_listed(kinds, header[at]) {
             return &header[at..at + n];
         }
@@ -28,43 +24,28 @@ pub fn first_listed<'a>(header: &'a [u8], kinds: &[u8]) -> &'a [u8]
     &header[0..0]
 }
 
-// How many octets the step at a place has: 1 for a NOP, an option's length, and 0 where the list ends or the option is broken.
-fn step_octets(header: &[u8], at: usize) -> usize
-    requires { at < length header.now }
+// How many octets the step at a place has, or none where the list ends there or the option is broken.
+fn step_octets(header: &[u8], at: usize) -> Option<usize>
     ensures { Reaches header.now at result }
 {
-    let kind = header[at];
-    if kind == END {
-        return 0;
+    if header.len() <= at || header[at] == END {
+        return None;
     }
-    if kind == NOP {
-        return 1;
+    if header[at] == NOP {
+        return Some(1);
     }
     if is_broken(&header[at..]) {
-        return 0;
+        return None;
     }
-    header[at + 1] as usize
+    Some(header[at + 1] as usize)
 }
+
+// The least kind that is looked for: 0 and 1 have no length octet.
+const LEAST_LISTED: u8 = 2;
 
 // Whether `kinds` asks for an option of this kind: 0 and 1 in it match nothing.
 fn is_listed(kinds: &[u8], kind: u8) -> bool
     ensures { result ≡ is_listed kinds.now kind }
 {
-    if kind < 2 {
-        return false;
-    }
-    stands_in(kinds, kind)
-}
-
-fn stands_in(kinds: &[u8], kind: u8) -> bool
-    ensures { result ≡ stands_in kind kinds.now }
-{
-    let mut i = 0;
-    while i < kinds.len() {
-        if kinds[i] == kind {
-            return true;
-        }
-        i += 1;
-    }
-    false
+    LEAST_LISTED <= kind && kinds.contains(&kind)
 }

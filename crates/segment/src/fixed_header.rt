@@ -1,6 +1,6 @@
 // The header's fields.
-ghost use Rattle.std.specs.Prelude.{cond, ◌≡◌, ◌*◌, ◌≤◌, length};
-ghost use Rattle.segment.specs.Reading.{data_offset, flags_of, len_of, segment_of};
+ghost use Rattle.std.specs.Prelude.{◌≡◌, ◌<◌, ◌*◌, ◌≤◌, length};
+ghost use Rattle.segment.specs.Reading.{bit, data_offset, flags_of, len_of, segment_of};
 
 use super::{Flags, Options, Payload, Segment};
 use octets::{Number, read_u8};
@@ -17,15 +17,23 @@ fn flags(octet: u8) -> Flags
     ensures { result ≡ flags_of octet }
 {
     Flags {
-        cwr: octet / 128 % 2 == 1,
-        ece: octet / 64 % 2 == 1,
-        urg: octet / 32 % 2 == 1,
-        ack: octet / 16 % 2 == 1,
-        psh: octet / 8 % 2 == 1,
-        rst: octet / 4 % 2 == 1,
-        syn: octet / 2 % 2 == 1,
-        fin: octet % 2 == 1,
+        cwr: bit(octet, 7),
+        ece: bit(octet, 6),
+        urg: bit(octet, 5),
+        ack: bit(octet, 4),
+        psh: bit(octet, 3),
+        rst: bit(octet, 2),
+        syn: bit(octet, 1),
+        fin: bit(octet, 0),
     }
+}
+
+// Whether bit n is set.
+fn bit(octet: u8, n: u32) -> bool
+    requires { n < 8 }
+    ensures { result ≡ bit n octet }
+{
+    octet >> n & 1 == 1
 }
 
 // LEN of a segment with so many payload octets and these flags.
@@ -33,13 +41,7 @@ fn len(payload: u32, flags: Flags) -> u32
     requires { payload ≤ 65535 }
     ensures { result ≡ len_of payload flags }
 {
-    payload + one_if(flags.syn) + one_if(flags.fin)
-}
-
-fn one_if(flag: bool) -> u32
-    ensures { (result ≡ cond flag 1 0) × (result ≤ 1) }
-{
-    if flag { 1 } else { 0 }
+    payload + u32::from(flags.syn) + u32::from(flags.fin)
 }
 
 // The fields of a segment whose header ends at `end`, with its options and how many of them were skipped.
@@ -47,27 +49,19 @@ pub fn fields(segment: &[u8], end: usize, skipped: usize, options: Options) -> S
     requires { (end ≤ length segment.now) × (length segment.now ≤ 65535) }
     ensures { result ≡ segment_of segment.now end skipped options }
 {
-    let source = u16::read(segment, 0);
-    let destination = u16::read(segment, 2);
-    let seq = Seq(u32::read(segment, 4));
-    let ack = Seq(u32::read(segment, 8));
     let flags = flags(read_u8(segment, 13));
-    let window = u16::read(segment, 14);
-    let urgent = u16::read(segment, 18);
     let length = (segment.len() - end) as u32;
-    let payload = Payload { start: end, length };
-    let len = len(length, flags);
     Segment {
-        source,
-        destination,
-        seq,
-        ack,
+        source: u16::read(segment, 0),
+        destination: u16::read(segment, 2),
+        seq: Seq(u32::read(segment, 4)),
+        ack: Seq(u32::read(segment, 8)),
         flags,
-        window,
-        urgent,
+        window: u16::read(segment, 14),
+        urgent: u16::read(segment, 18),
         options,
         skipped,
-        payload,
-        len,
+        payload: Payload { start: end, length },
+        len: len(length, flags),
     }
 }

@@ -25,6 +25,7 @@ impl TryFrom<u8> for Kind {
 
     ghost try_from_gives = { IsKind };
 
+    #[tactic(auto, unfolding(crate::specs::Options::stands_in))]
     fn try_from(kind: u8) -> Result<Kind, UnknownKind> {
         match kind {
             2 => Ok(Kind::Mss),

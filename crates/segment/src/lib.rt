@@ -14,7 +14,7 @@ ghost use Rattle.std.specs.Prelude.{◌≡◌, Err};
 ghost use Rattle.segment.specs.Part.{IsPart};
 ghost use Rattle.segment.specs.Reading.{found_option, number_of, number_positive, reported, shown};
 
-use octets::read_u8;
+use notes::Notes;
 use refusals::Numbered;
 pub use sack_blocks::SackBlocks;
 use serial::{Seq, Stamp};
@@ -156,32 +156,20 @@ pub fn read(segment: &[u8]) -> Reading
     if end < FIXED_HEADER || segment.len() < end {
         return Reading::unread(Refusal::BadDataOffset);
     }
-    let mut notes = [0u8; notes::LENGTH];
-    let number = rules::padding_rule(&segment[0..end], FIXED_HEADER, &mut notes);
-    let steps = read_u8(&notes, notes::STEPS) as usize;
-    let place = read_u8(&notes, notes::LAST);
-    match number {
+    let mut notes = Notes::new();
+    let answer = rules::padding_rule(&segment[0..end], FIXED_HEADER, &mut notes);
+    let steps = notes.steps;
+    if let Err(why) = answer {
         // Returned at once, so that the fields of a segment are stored as they are read.
-        4 => return Reading {
-            outcome: Err(Refusal::BrokenOption(place)),
+        return Reading {
+            outcome: Err(why),
             steps,
-        },
-        5 => return Reading {
-            outcome: Err(Refusal::WrongOptionLength(place)),
-            steps,
-        },
-        6 => return Reading {
-            outcome: Err(Refusal::RepeatedOption(place)),
-            steps,
-        },
-        _ => {
-            let options = values::options(segment, &notes);
-            let skipped = read_u8(&notes, notes::SKIPPED) as usize;
-            Reading {
-                outcome: Ok(fixed_header::fields(segment, end, skipped, options)),
-                steps,
-            }
-        }
+        };
+    }
+    let options = values::options(segment, &notes);
+    Reading {
+        outcome: Ok(fixed_header::fields(segment, end, notes.skipped, options)),
+        steps,
     }
 }
 

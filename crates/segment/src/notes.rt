@@ -1,28 +1,42 @@
-// What the rules note of the options while they run, each note in one octet of an array. A header has at most 60 octets.
-//
-// At each known kind stands the place in the segment of the option of that kind, 0 where there is none. The other notes stand after the last
-// known kind, 8.
-ghost use Rattle.std.specs.Prelude.{◌≡◌, get_or};
+// What the rules note of the options while they run. A header has at most 60 octets, so a place fits into one.
+ghost use Rattle.std.specs.Prelude.{◌≡◌, None, Some, get_or, replicate, set};
 ghost use Rattle.segment.specs.Kinds.{kind_number};
 
 use super::kinds::Kind;
-use octets::read_u8;
 
-// How many steps were taken.
-pub const STEPS: usize = 9;
+// One more than the last known kind.
+const KINDS: usize = 9;
 
-// How many unknown options were skipped.
-pub const SKIPPED: usize = 10;
+#[derive(Drop)]
+pub struct Notes {
+    // At each known kind the place in the segment of the option of that kind.
+    places: [Option<u8>; KINDS],
+    // How many steps were taken.
+    pub steps: usize,
+    // How many unknown options were skipped.
+    pub skipped: usize,
+}
 
-// The place of the option that was read last.
-pub const LAST: usize = 11;
+impl Notes {
+    pub fn new() -> Notes
+        ensures { result ≡ record { places = replicate 9 None; steps = 0; skipped = 0 } }
+    {
+        Notes {
+            places: [None; KINDS],
+            steps: 0,
+            skipped: 0,
+        }
+    }
 
-// How many octets the notes have.
-pub const LENGTH: usize = 12;
+    pub fn place(&self, kind: Kind) -> Option<u8>
+        ensures { result ≡ get_or self.now.places (kind_number kind) None }
+    {
+        self.places[kind as usize]
+    }
 
-// The place that is noted of a kind.
-pub fn place_of(notes: &[u8], kind: Kind) -> u8
-    ensures { result ≡ get_or notes.now (kind_number kind) 0 }
-{
-    read_u8(notes, kind as usize)
+    pub fn set_place(&mut self, kind: Kind, place: u8)
+        ensures { self.new ≡ record self.old { places = set self.old.places (kind_number kind) (Some place) } }
+    {
+        self.places[kind as usize] = Some(place);
+    }
 }

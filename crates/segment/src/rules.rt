@@ -1,28 +1,29 @@
-// The two rules that read the options: each passes what is left to the other. They answer the refusal's number, 0 where no option is at
-// fault, and note the rest.
+// The two rules that read the options: each passes what is left to the other. They answer why the list is refused, if it is, and note the
+// rest.
 ghost use Rattle.std.specs.Prelude.{◌≡◌, ◌≤◌, ◌<◌, drop, length};
 ghost use Rattle.segment.specs.Grammar.{is_broken, option_rule, padding_rule};
 ghost use Rattle.segment.specs.Options.{is_wrong_length};
 ghost use Rattle.segment.specs.Kinds.{kind_number};
 ghost use Rattle.segment.specs.Internal.{AfterNops, Answers, Room};
 
+use super::Refusal;
 use super::kinds::{END, Kind, NOP};
-use super::notes::{LAST, SKIPPED, STEPS};
+use super::notes::Notes;
 
 // Passes NOPs from `from` on and ends the list at kind 0 or at the header's end.
 #[cycle(option_rule_padding_rule)]
-pub fn padding_rule(header: &[u8], from: usize, notes: &mut [u8]) -> u8
-    requires { (0 < from) × Room notes.old from × (from ≤ length header.now) × (length header.now ≤ 60) }
+pub fn padding_rule(header: &[u8], from: usize, notes: &mut Notes) -> Result<(), Refusal>
+    requires { Room notes.old from × (from ≤ length header.now) × (length header.now ≤ 60) }
     ensures { Answers (padding_rule from (drop from header.now)) notes.old result notes.new }
 {
     let at = after_nops(header, from);
-    notes[STEPS] += (at - from) as u8;
+    notes.steps += at - from;
     if header.len() <= at {
-        return 0;
+        return Ok(());
     }
     if header[at] == END {
-        notes[STEPS] += 1;
-        return 0;
+        notes.steps += 1;
+        return Ok(());
     }
     option_rule(header, at, notes)
 }
@@ -32,68 +33,59 @@ fn after_nops(header: &[u8], from: usize) -> usize
     requires { from ≤ length header.now }
     ensures { AfterNops header.now from result }
 {
-    let mut at = from;
-    while at < header.len() {
+    for at in from..header.len() {
         if header[at] != NOP {
             return at;
         }
-        at += 1;
     }
-    at
+    header.len()
 }
 
 // Reads one kind, length and body, and passes what is left to the padding rule: E4, E5, E6 in this order.
 #[cycle(option_rule_padding_rule)]
-fn option_rule(header: &[u8], at: usize, notes: &mut [u8]) -> u8
-    requires { (0 < at) × Room notes.old at × (at < length header.now) × (length header.now ≤ 60) }
+fn option_rule(header: &[u8], at: usize, notes: &mut Notes) -> Result<(), Refusal>
+    requires { Room notes.old at × (at < length header.now) × (length header.now ≤ 60) }
     ensures { Answers (option_rule at (drop at header.now)) notes.old result notes.new }
 {
-    notes[STEPS] += 1;
-    notes[LAST] = at as u8;
+    notes.steps += 1;
+    let place = at as u8;
     if is_broken(&header[at..]) {
-        return 4;
+        return Err(Refusal::BrokenOption(place));
     }
-    let octet = header[at];
     let n = header[at + 1] as usize;
     let next = at + n;
-    let Ok(kind) = Kind::try_from(octet) else {
+    let Ok(kind) = Kind::try_from(header[at]) else {
         // Neither E5 nor E6 is given for an unknown kind.
-        notes[SKIPPED] += 1;
+        notes.skipped += 1;
         return padding_rule(header, next, notes);
     };
     if is_wrong_length(kind, n) {
-        return 5;
+        return Err(Refusal::WrongOptionLength(place));
     }
-    let index = octet as usize;
-    if notes[index] != 0 {
-        return 6;
+    if notes.place(kind).is_some() {
+        return Err(Refusal::RepeatedOption(place));
     }
-    notes[index] = at as u8;
+    notes.set_place(kind, place);
     // Where the header ends with this option, nothing is left for the padding rule.
     if header.len() <= next {
-        return 0;
+        return Ok(());
     }
     padding_rule(header, next, notes)
 }
 
 // E4: the option at the start of `left` has no length octet, a length under 2, or one past the end.
+#[tactic(auto, unfolding(crate::specs::Grammar::is_broken))]
 pub fn is_broken(left: &[u8]) -> bool
     ensures { result ≡ is_broken left.now }
 {
-    if left.len() < 2 {
-        return true;
-    }
-    let n = left[1] as usize;
-    if n < 2 {
-        return true;
-    }
-    left.len() < n
+    left.len() < 2 || left[1] < 2 || left.len() < left[1] as usize
 }
 
 // The lengths of one to four blocks.
 const SACK_LENGTHS: [usize; 4] = [10, 18, 26, 34];
 
 // E5: the kind does not have this length.
+#[tactic(auto, using(crate::proofs::Membership::any_stands), unfolding(crate::specs::Options::is_wrong_length, crate::specs::Options::stands_in, crate::specs::Options::lengths_of))]
 fn is_wrong_length(kind: Kind, n: usize) -> bool
     ensures { result ≡ is_wrong_length (kind_number kind) n }
 {

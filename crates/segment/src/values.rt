@@ -5,66 +5,57 @@ ghost use Rattle.segment.specs.Options.{Found, block_at, blocks_of, mss_of, opti
 ghost use Rattle.segment.specs.Internal.{Noted, StandAll, StandsIf, place_of};
 
 use super::kinds::Kind;
-use super::notes::place_of;
+use super::notes::Notes;
 use super::{Options, SackBlocks, Timestamps};
 use octets::{Number, read_u8};
 use serial::{Range, Seq, Stamp};
 
 // The values of the options whose places are noted.
-pub fn options(segment: &[u8], notes: &[u8]) -> Options
+pub fn options(segment: &[u8], notes: &Notes) -> Options
     ensures { (steps : List Step) → Noted steps notes.now → StandAll segment.now steps → result ≡ options_of steps }
 {
-    let mss = mss(segment, place_of(notes, Kind::Mss));
-    let scale = scale(segment, place_of(notes, Kind::WindowScale));
-    let blocks = sack_blocks(segment, place_of(notes, Kind::Sack));
-    let timestamps = timestamps(segment, place_of(notes, Kind::Timestamps));
     Options {
-        mss,
-        scale,
-        permitted: place_of(notes, Kind::SackPermitted) != 0,
-        blocks,
-        timestamps,
+        mss: mss(segment, notes.place(Kind::Mss)),
+        scale: scale(segment, notes.place(Kind::WindowScale)),
+        permitted: notes.place(Kind::SackPermitted).is_some(),
+        blocks: sack_blocks(segment, notes.place(Kind::Sack)),
+        timestamps: timestamps(segment, notes.place(Kind::Timestamps)),
     }
 }
 
-fn mss(segment: &[u8], place: u8) -> Option<u16>
+fn mss(segment: &[u8], place: Option<u8>) -> Option<u16>
     ensures { (f : Found) → place ≡ place_of f → StandsIf segment.now 2 4 f → result ≡ mss_of f }
 {
-    if place == 0 {
-        return None;
-    }
-    Some(u16::read(segment, place as usize + 2))
+    let at = place? as usize;
+    Some(u16::read(segment, at + 2))
 }
 
-fn scale(segment: &[u8], place: u8) -> Option<u8>
+fn scale(segment: &[u8], place: Option<u8>) -> Option<u8>
     ensures { (f : Found) → place ≡ place_of f → StandsIf segment.now 3 3 f → result ≡ scale_of f }
 {
-    if place == 0 {
-        return None;
-    }
-    Some(read_u8(segment, place as usize + 2))
+    let at = place? as usize;
+    Some(read_u8(segment, at + 2))
 }
 
-fn timestamps(segment: &[u8], place: u8) -> Option<Timestamps>
+fn timestamps(segment: &[u8], place: Option<u8>) -> Option<Timestamps>
     ensures { (f : Found) → place ≡ place_of f → StandsIf segment.now 8 10 f → result ≡ timestamps_of f }
 {
-    if place == 0 {
-        return None;
-    }
-    let value = Stamp(u32::read(segment, place as usize + 2));
-    let echoed = Stamp(u32::read(segment, place as usize + 6));
-    Some(Timestamps { value, echoed })
+    let at = place? as usize;
+    Some(Timestamps {
+        value: Stamp(u32::read(segment, at + 2)),
+        echoed: Stamp(u32::read(segment, at + 6)),
+    })
 }
 
-fn sack_blocks(segment: &[u8], place: u8) -> SackBlocks
+fn sack_blocks(segment: &[u8], place: Option<u8>) -> SackBlocks
     ensures { (f : Found) → place ≡ place_of f → StandsIf segment.now 5 10 f → result ≡ blocks_of f }
 {
-    if place == 0 {
-        return SackBlocks::none();
-    }
+    let mut blocks = SackBlocks::none();
+    let Some(place) = place else {
+        return blocks;
+    };
     let at = place as usize;
     let count = (read_u8(segment, at + 1) as usize).saturating_sub(2) / 8;
-    let mut blocks = SackBlocks::none();
     for i in 0..count {
         blocks.push(block(segment, at + 2 + 8 * i));
     }

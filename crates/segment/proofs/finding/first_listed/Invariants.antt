@@ -5,9 +5,9 @@ use Rattle.segment.specs.Options.{option_in}
 use Rattle.segment.specs.Reading.{matching}
 use Rattle.segment.proofs.finding.first_listed.Given as goal
 
-abbrev pub invariant-loop-at : goal.invariant-loop-at
-invariant-loop-at l =
+abbrev pub invariant-loop-n : goal.invariant-loop-n
+invariant-loop-n l =
     option_in (matching l.kinds) (padding_rule 20 (drop 20 l.header)) ≡ option_in (matching l.kinds) (padding_rule l.at (drop l.at l.header))
 
-abbrev pub decreases-loop-at : goal.decreases-loop-at
-decreases-loop-at l = length l.header - l.at
+abbrev pub decreases-loop-n : goal.decreases-loop-n
+decreases-loop-n l = length l.header - l.at

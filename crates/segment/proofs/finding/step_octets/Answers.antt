@@ -1,48 +1,78 @@
 -- Each test meets one way in which the rules go on. Assumes nothing.
-use mathlib.Core.Bool.{false}
-use mathlib.Core.Path.{◌≡◌, refl, sym, ap, ◌∙◌}
-use Prim.Native.Nat.{◌+◌, ◌≤◌}
+use mathlib.Core.Bool.{true, false}
+use mathlib.Core.List.{List}
+use mathlib.Core.Path.{◌≡◌, refl, ap, ◌∙◌}
+use Prim.Native.Nat.{ℕ, ◌+◌, ◌≤◌, ◌<◌}
 use native.Mathlib.Omega.{arith}
 use lib.ListN.{drop, get_or, length}
-use borrow.Author.Tests.{ne_eqb}
-use Rattle.segment.specs.Grammar.{is_broken, option_rule, padding_rule}
+use Rattle.std.specs.Prelude.{Some, None}
+use Rattle.segment.specs.Grammar.{is_broken}
+use Rattle.segment.specs.Internal.{Reaches}
 use Rattle.segment.specs.Options.{option_in, stands_in}
 use Rattle.segment.specs.Reading.{matching}
-use Rattle.segment.proofs.ByOctet.{octets_least, octets_most, padding_option, to_the_end}
-use Rattle.segment.proofs.Listed.{broken_found, end_found, nop_found, whole_found}
+use Rattle.segment.proofs.ByOctet.{octets_least, octets_most, padding_option, tested}
+use Rattle.segment.proofs.Listed.{broken_found, end_found, nop_found, past_found, whole_found}
 use Rattle.segment.proofs.Membership.{stands_failed}
 use Rattle.segment.proofs.finding.step_octets.Goals as goal
+use Rattle.segment.proofs.finding.step_octets.Goals.{then-header-at-via-then-header-at, then-header-at-via-else-header-at+then-header-at-eq-END}
 
-pub returns-then-kind-eq-END : goal.returns-then-kind-eq-END
-returns-then-kind-eq-END c = record { within = omega arith; finds = λ kinds. end_found (matching kinds) _ _ c.requires (omega (arith, c.if-kind-eq-END.true)) }
+module _ (header : List ℕ) (at : ℕ) where
+  past : length header ≤ at → Reaches header at None
+  past h = record { least = tt; within = tt; finds = λ kinds. past_found (matching kinds) header at h }
 
-pub returns-then-kind-eq-NOP : goal.returns-then-kind-eq-NOP
-returns-then-kind-eq-NOP c = record {
-  within = omega arith;
-  finds = λ kinds.
-      let unlisted : stands_in 1 (matching kinds) ≡ false = stands_failed _ 1 kinds refl in
-      simp (c.if-kind-eq-NOP.true, unlisted) (nop_found (matching kinds) _ _ c.requires (omega (arith, c.if-kind-eq-NOP.true)));
-}
+  module _ (h : at < length header) where
+    at_end : get_or header at 0 ≡ 0 → Reaches header at None
+    at_end e = record { least = tt; within = tt; finds = λ kinds. end_found (matching kinds) header at h e }
+
+    at_nop : get_or header at 0 ≡ 1 → Reaches header at (Some 1)
+    at_nop e = record {
+      least = omega arith;
+      within = omega arith;
+      finds = λ kinds.
+          let unlisted : stands_in 1 (matching kinds) ≡ false = stands_failed _ 1 kinds refl in
+          simp (e, unlisted) (nop_found (matching kinds) header at h e);
+    }
+
+    module _ (not_end : get_or header at 0 ≡ 0 → ⊥) (not_nop : get_or header at 0 ≡ 1 → ⊥) where
+      at_broken : is_broken (drop at header) ≡ true → Reaches header at None
+      at_broken b = record {
+        least = tt;
+        within = tt;
+        finds = λ kinds. ap (option_in (matching kinds)) (padding_option header at h not_end not_nop) ∙ broken_found (matching kinds) header at b;
+      }
+
+      at_option : is_broken (drop at header) ≡ false → Reaches header at (Some (get_or header (at + 1) 0))
+      at_option b = record {
+        least = omega (arith, octets_least header at b);
+        within = octets_most header at b;
+        finds = λ kinds. ap (option_in (matching kinds)) (padding_option header at h not_end not_nop) ∙ whole_found (matching kinds) header at b;
+      }
+
+pub returns-then-header-at : goal.returns-then-header-at
+returns-then-header-at c =
+    let a = c.args in
+    elim c.then-header-at.branch [
+      | then-header-at-via-then-header-at w ↦ past a.header.now a.at w.if-header-at.true
+      | then-header-at-via-else-header-at+then-header-at-eq-END w ↦ at_end a.header.now a.at w.if-header-at.false (omega (arith, w.if-header-at-eq-END.true))
+    ]
+
+pub returns-then-header-at-eq-NOP : goal.returns-then-header-at-eq-NOP
+returns-then-header-at-eq-NOP c = at_nop c.args.header.now c.args.at c.if-header-at.false (omega (arith, c.if-header-at-eq-NOP.true))
 
 pub returns-then-is_broken : goal.returns-then-is_broken
-returns-then-is_broken c = record {
-  within = omega arith;
-  finds = λ kinds. ap (option_in (matching kinds)) ((let option_there : let a = c.args in padding_rule a.at (drop a.at a.header.now) ≡ option_rule a.at (drop a.at a.header.now) = let a = c.args in padding_option a.header.now a.at c.requires (λ e. c.if-kind-eq-END.false (omega (arith, e))) (λ e. c.if-kind-eq-NOP.false (omega (arith, e))) in option_there)) ∙ broken_found (matching kinds) _ _ ((let same_test : let a = c.args in is_broken (drop a.at a.header.now) ≡ c.is_broken.result = let a = c.args in sym (rw (to_the_end a.at a.header.now) at c.is_broken.ensures) in same_test) ∙ c.if-is_broken.true);
-}
+returns-then-is_broken c =
+    let a = c.args in
+    at_broken a.header.now a.at c.if-header-at.false (λ e. omega (arith, e, c.if-header-at-eq-END.false)) (λ e. omega (arith, e, c.if-header-at-eq-NOP.false))
+    (tested a.header.now a.at c.is_broken.ensures c.if-is_broken.true)
 
-pub overflow_add-result : goal.overflow_add-result
-overflow_add-result c = omega (arith, (let fits : let a = c.args in let n = get_or a.header.now (a.at + 1) 0 in (2 ≤ n) × (a.at + n ≤ length a.header.now) = let a = c.args in (octets_least a.header.now a.at ((let unbroken : let a = c.args in is_broken (drop a.at a.header.now) ≡ false = (let same_test : let a = c.args in is_broken (drop a.at a.header.now) ≡ c.is_broken.result = let a = c.args in sym (rw (to_the_end a.at a.header.now) at c.is_broken.ensures) in same_test) ∙ c.if-is_broken.false in unbroken)), octets_most a.header.now a.at ((let unbroken : let a = c.args in is_broken (drop a.at a.header.now) ≡ false = (let same_test : let a = c.args in is_broken (drop a.at a.header.now) ≡ c.is_broken.result = let a = c.args in sym (rw (to_the_end a.at a.header.now) at c.is_broken.ensures) in same_test) ∙ c.if-is_broken.false in unbroken))) in fits))
-
-pub bounds-header-at-2 : goal.bounds-header-at-2
-bounds-header-at-2 c = omega (arith, (let fits : let a = c.args in let n = get_or a.header.now (a.at + 1) 0 in (2 ≤ n) × (a.at + n ≤ length a.header.now) = let a = c.args in (octets_least a.header.now a.at ((let unbroken : let a = c.args in is_broken (drop a.at a.header.now) ≡ false = (let same_test : let a = c.args in is_broken (drop a.at a.header.now) ≡ c.is_broken.result = let a = c.args in sym (rw (to_the_end a.at a.header.now) at c.is_broken.ensures) in same_test) ∙ c.if-is_broken.false in unbroken)), octets_most a.header.now a.at ((let unbroken : let a = c.args in is_broken (drop a.at a.header.now) ≡ false = (let same_test : let a = c.args in is_broken (drop a.at a.header.now) ≡ c.is_broken.result = let a = c.args in sym (rw (to_the_end a.at a.header.now) at c.is_broken.ensures) in same_test) ∙ c.if-is_broken.false in unbroken))) in fits))
+pub bounds-header-at-3 : goal.bounds-header-at-3
+bounds-header-at-3 c =
+    let a = c.args in
+    let unbroken = tested a.header.now a.at c.is_broken.ensures c.if-is_broken.false in
+    omega (arith, octets_least a.header.now a.at unbroken, octets_most a.header.now a.at unbroken)
 
 pub returns : goal.returns
 returns c =
     let a = c.args in
-    let header = a.header.now in
-    let there = (let fits : let a = c.args in let n = get_or a.header.now (a.at + 1) 0 in (2 ≤ n) × (a.at + n ≤ length a.header.now) = let a = c.args in (octets_least a.header.now a.at ((let unbroken : let a = c.args in is_broken (drop a.at a.header.now) ≡ false = (let same_test : let a = c.args in is_broken (drop a.at a.header.now) ≡ c.is_broken.result = let a = c.args in sym (rw (to_the_end a.at a.header.now) at c.is_broken.ensures) in same_test) ∙ c.if-is_broken.false in unbroken)), octets_most a.header.now a.at ((let unbroken : let a = c.args in is_broken (drop a.at a.header.now) ≡ false = (let same_test : let a = c.args in is_broken (drop a.at a.header.now) ≡ c.is_broken.result = let a = c.args in sym (rw (to_the_end a.at a.header.now) at c.is_broken.ensures) in same_test) ∙ c.if-is_broken.false in unbroken))) in fits) in
-    record {
-      within = there.1;
-      finds = λ kinds. simp (ne_eqb (get_or header (a.at + 1) 0) 0 (λ z. omega (arith, there.0)))
-          (ap (option_in (matching kinds)) ((let option_there : let a = c.args in padding_rule a.at (drop a.at a.header.now) ≡ option_rule a.at (drop a.at a.header.now) = let a = c.args in padding_option a.header.now a.at c.requires (λ e. c.if-kind-eq-END.false (omega (arith, e))) (λ e. c.if-kind-eq-NOP.false (omega (arith, e))) in option_there)) ∙ whole_found (matching kinds) header a.at ((let unbroken : let a = c.args in is_broken (drop a.at a.header.now) ≡ false = (let same_test : let a = c.args in is_broken (drop a.at a.header.now) ≡ c.is_broken.result = let a = c.args in sym (rw (to_the_end a.at a.header.now) at c.is_broken.ensures) in same_test) ∙ c.if-is_broken.false in unbroken)));
-    }
+    at_option a.header.now a.at c.if-header-at.false (λ e. omega (arith, e, c.if-header-at-eq-END.false)) (λ e. omega (arith, e, c.if-header-at-eq-NOP.false))
+    (tested a.header.now a.at c.is_broken.ensures c.if-is_broken.false)

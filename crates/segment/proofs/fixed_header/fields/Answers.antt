@@ -6,13 +6,13 @@ pub returns : goal.returns
 unfolding segment_of
 returns c =
     rw (
-      c.read-source.ensures,
-      c.read-destination.ensures,
       c.read.ensures,
       c.read-2.ensures,
-      c.len-len.ensures,
+      c.read-3.ensures,
+      c.read-4.ensures,
+      c.len.ensures,
       c.flags-flags.ensures,
       c.read_u8.ensures,
-      c.read-window.ensures,
-      c.read-urgent.ensures,
+      c.read-5.ensures,
+      c.read-6.ensures,
     )

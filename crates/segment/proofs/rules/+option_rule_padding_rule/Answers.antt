@@ -1,153 +1,131 @@
 -- The two rules, which call each other. The measure is document 01's: twice the octets left, plus one in the padding rule. Each return
 -- cites the law of the step that its way through the code meets. Assumes nothing.
-use mathlib.Core.Bool.{true, false}
+use mathlib.Core.Bool.{false}
 use mathlib.Core.List.{List}
-use mathlib.Core.Path.{◌≡◌, refl, sym, ◌∙◌}
+use mathlib.Core.Path.{◌≡◌, refl, sym, ap, ◌∙◌}
 use Prim.Native.Nat.{ℕ, ◌+◌, ◌-◌, ◌≤◌, ◌<◌}
 use native.Mathlib.Omega.{arith}
-use lib.ListN.{drop, get_or, length, set}
+use lib.ListN.{drop, get_or, length}
+use Rattle.std.specs.Prelude.{None, is_some, Result}
 use Rattle.segment.specs.Grammar.{is_broken, option_rule, padding_rule}
-use Rattle.segment.specs.Options.{is_known, is_wrong_length}
-use Rattle.segment.specs.Internal.{Answers}
-use Rattle.segment.proofs.ByOctet.{octets_least, octets_most, to_the_end}
+use Rattle.segment.specs.Options.{is_wrong_length}
+use Rattle.segment.specs.Internal.{Answers, Room}
+use Rattle.segment.specs.Kinds.{kind_number}
+use Rattle.segment.specs.declared.Refusal.{Refusal}
+use Rattle.segment.specs.declared.kinds.Kind.{Kind}
+use Rattle.segment.specs.declared.notes.Notes.{Notes}
+use Rattle.segment.proofs.ByOctet.{octets_least, octets_most, tested}
 use Rattle.segment.proofs.KindsKnown.{kind_known}
-use Rattle.segment.proofs.Noting.{known_most, room_placed, room_skipping, started, started_last, started_noted, started_size, started_steps, stepped, stepped_noted, stepped_size, stepped_steps}
+use Rattle.segment.proofs.Noting.{placed, room_placed, room_skipping, stepped, stepped_noted}
 use Rattle.segment.proofs.Outcomes.{at_broken, at_end, at_known, at_option, at_past, at_repeated, at_skipped, at_wrong}
 use Rattle.segment.proofs.rules.+option_rule_padding_rule.Goals as goal
 
--- an option that is not broken: its length, where its kind and length octets are read
-fits : (header : List ℕ) (at : ℕ) → is_broken (drop at header) ≡ false
-    → (2 ≤ get_or header (at + 1) 0) × (at + get_or header (at + 1) 0 ≤ length header)
-fits header at unbroken = (octets_least header at unbroken, octets_most header at unbroken)
+-- An option that is not broken, with its length, where its kind and length octets are read.
+module _ (header : List ℕ) (at : ℕ) (unbroken : is_broken (drop at header) ≡ false) where
+  abbrev n : ℕ
+  n = get_or header (at + 1) 0
 
--- an outcome on the octets after an option of a known kind, whose place is noted, is one on the option too
-with_place : (header notes : List ℕ) (at : ℕ) (size : length notes ≡ 12) → 0 < at → is_broken (drop at header) ≡ false
-    → is_known (get_or header at 0) ≡ true → is_wrong_length (get_or header at 0) (get_or header (at + 1) 0) ≡ false
-    → get_or (started notes size at) (get_or header at 0) 0 ≡ 0 → (r : ℕ) (later : List ℕ)
-    → Answers (padding_rule (at + get_or header (at + 1) 0) (drop (at + get_or header (at + 1) 0) header)) (set (started notes size at) (get_or header at 0) at) r later
-    → Answers (option_rule at (drop at header)) notes r later
-with_place header notes at size past unbroken known right none r later after before p =
-    at_known before _ header at unbroken (started notes size at) (started_size notes size at) (started_noted notes size at before p) past
-    (started_steps notes size at) r later known right none after
+  fits : (2 ≤ n) × (at + n ≤ length header)
+  fits = (octets_least header at unbroken, octets_most header at unbroken)
+
+  -- One of a known kind and a right length, the first of its kind, whose place is noted: what is answered to the octets after it is answered
+  -- to it too.
+  with_place : (notes noted : Notes) (kind : Kind) → length notes.places ≡ 9 → kind_number kind ≡ get_or header at 0
+      → is_wrong_length (kind_number kind) n ≡ false → is_some (get_or notes.places (kind_number kind) None) ≡ false
+      → noted ≡ placed (stepped notes 1) (kind_number kind) at → (answer : Result (Unit {0}) Refusal) (later : Notes)
+      → Answers (padding_rule (at + n) (drop (at + n) header)) noted answer later → Answers (option_rule at (drop at header)) notes answer later
+  with_place notes noted kind size is right none e answer later after before p =
+      at_known before _ header at unbroken (stepped notes 1) (stepped_noted notes before p 1) refl answer later size
+      (rw is at (kind_known kind)) (rw is at right) (rw is at none) (rw (e, is) at after)
 
 pub option_rule-returns-then-is_broken : goal.option_rule-returns-then-is_broken
 option_rule-returns-then-is_broken t c = λ before p.
     let a = c.args in
-    let size = c.requires.1.octets in
-    let broken = sym (rw (to_the_end a.at a.header.now) at c.is_broken.ensures) ∙ c.if-is_broken.true in
-    at_broken before _ a.header.now a.at _ (started_last a.notes.now size a.at) (started_steps a.notes.now size a.at) broken
+    at_broken before _ a.header.now a.at (stepped a.notes.now 1) refl (tested a.header.now a.at c.is_broken.ensures c.if-is_broken.true)
 
-pub option_rule-bounds-header-at-2 : goal.option_rule-bounds-header-at-2
-option_rule-bounds-header-at-2 t c =
+pub option_rule-bounds-header-at : goal.option_rule-bounds-header-at
+option_rule-bounds-header-at t c =
     let a = c.args in
-    let unbroken = sym (rw (to_the_end a.at a.header.now) at c.is_broken.ensures) ∙ c.if-is_broken.false in
-    omega (arith, fits a.header.now a.at unbroken)
+    omega (arith, fits a.header.now a.at (tested a.header.now a.at c.is_broken.ensures c.if-is_broken.false))
 
 pub option_rule-padding_rule-requires : goal.option_rule-padding_rule-requires
 option_rule-padding_rule-requires t c =
     let a = c.args in
-    let unbroken = sym (rw (to_the_end a.at a.header.now) at c.is_broken.ensures) ∙ c.if-is_broken.false in
-    let there = fits a.header.now a.at unbroken in
-    let room = room_skipping a.notes.now a.at c.requires.1 _ there.0 in
-    (omega (arith, there, c.decreases), (omega (arith, there), room, there.1, c.requires.3))
+    let there = fits a.header.now a.at (tested a.header.now a.at c.is_broken.ensures c.if-is_broken.false) in
+    let room = room_skipping a.notes.now a.at c.requires.0 _ there.0 in
+    (omega (arith, there, c.decreases), (room, there.1, c.requires.2))
 
 pub option_rule-returns-in_default : goal.option_rule-returns-in_default
 option_rule-returns-in_default t c = λ before p.
     let a = c.args in
-    let notes = a.notes.now in
-    let size = c.requires.1.octets in
-    let unbroken = sym (rw (to_the_end a.at a.header.now) at c.is_broken.ensures) ∙ c.if-is_broken.false in
-    at_skipped before _ a.header.now a.at unbroken (started notes size a.at) (started_size notes size a.at)
-    (started_noted notes size a.at before p) c.requires.0 (started_steps notes size a.at) _ _ c.in_default.ensures c.padding_rule.ensures
+    let unbroken = tested a.header.now a.at c.is_broken.ensures c.if-is_broken.false in
+    at_skipped before _ a.header.now a.at unbroken (stepped a.notes.now 1) (stepped_noted a.notes.now before p 1) refl _ _
+    c.in_default.ensures c.padding_rule.ensures
 
 pub option_rule-returns-then-is_wrong_length : goal.option_rule-returns-then-is_wrong_length
 option_rule-returns-then-is_wrong_length t c = λ before p.
     let a = c.args in
-    let size = c.requires.1.octets in
-    let unbroken = sym (rw (to_the_end a.at a.header.now) at c.is_broken.ensures) ∙ c.if-is_broken.false in
+    let unbroken = tested a.header.now a.at c.is_broken.ensures c.if-is_broken.false in
     let wrong = rw c.in-Ok.ensures at (sym c.is_wrong_length.ensures ∙ c.if-is_wrong_length.true) in
-    at_wrong before _ a.header.now a.at _ (started_last a.notes.now size a.at) (started_steps a.notes.now size a.at) unbroken wrong
+    at_wrong before _ a.header.now a.at (stepped a.notes.now 1) refl unbroken wrong
 
-pub option_rule-bounds-notes-index : goal.option_rule-bounds-notes-index
-option_rule-bounds-notes-index t c =
+pub option_rule-returns-then-is_some : goal.option_rule-returns-then-is_some
+option_rule-returns-then-is_some t c = λ before p.
     let a = c.args in
-    let known = rw c.in-Ok.ensures at (kind_known c.in-Ok.kind) in
-    omega (arith, started_size a.notes.now c.requires.1.octets a.at, known_most _ known)
-
-pub option_rule-returns-then-notes-index-ne0 : goal.option_rule-returns-then-notes-index-ne0
-option_rule-returns-then-notes-index-ne0 t c = λ before p.
-    let a = c.args in
-    let size = c.requires.1.octets in
-    let notes = a.notes.now in
-    let unbroken = sym (rw (to_the_end a.at a.header.now) at c.is_broken.ensures) ∙ c.if-is_broken.false in
-    let known = rw c.in-Ok.ensures at (kind_known c.in-Ok.kind) in
-    let right = rw c.in-Ok.ensures at (sym c.is_wrong_length.ensures ∙ c.if-is_wrong_length.false) in
-    at_repeated before _ a.header.now a.at _ (started_last notes size a.at) (started_steps notes size a.at) unbroken right known
-    (started_noted notes size a.at before p) c.if-notes-index-ne0.true
-
-pub option_rule-bounds-notes-index-2 : goal.option_rule-bounds-notes-index-2
-option_rule-bounds-notes-index-2 t c =
-    let a = c.args in
-    let known = rw c.in-Ok.ensures at (kind_known c.in-Ok.kind) in
-    omega (arith, started_size a.notes.now c.requires.1.octets a.at, known_most _ known)
+    let is = c.in-Ok.ensures in
+    let unbroken = tested a.header.now a.at c.is_broken.ensures c.if-is_broken.false in
+    let right = rw is at (sym c.is_wrong_length.ensures ∙ c.if-is_wrong_length.false) in
+    let there = rw (c.place.ensures, is) at (sym c.is_some.ensures ∙ c.if-is_some.true) in
+    at_repeated before _ a.header.now a.at (stepped a.notes.now 1) refl unbroken right (rw is at (kind_known c.in-Ok.kind))
+    (stepped_noted a.notes.now before p 1) there
 
 pub option_rule-returns-then-header-next : goal.option_rule-returns-then-header-next
 option_rule-returns-then-header-next t c =
     let a = c.args in
-    let unbroken = sym (rw (to_the_end a.at a.header.now) at c.is_broken.ensures) ∙ c.if-is_broken.false in
-    let known = rw c.in-Ok.ensures at (kind_known c.in-Ok.kind) in
-    let right = rw c.in-Ok.ensures at (sym c.is_wrong_length.ensures ∙ c.if-is_wrong_length.false) in
-    with_place a.header.now a.notes.now a.at c.requires.1.octets c.requires.0 unbroken known right (omega (arith, c.if-notes-index-ne0.false)) 0 _
+    let unbroken = tested a.header.now a.at c.is_broken.ensures c.if-is_broken.false in
+    let right = sym c.is_wrong_length.ensures ∙ c.if-is_wrong_length.false in
+    with_place a.header.now a.at unbroken a.notes.now _ c.in-Ok.kind c.requires.0.kinds c.in-Ok.ensures right
+    (ap is_some (sym c.place.ensures) ∙ sym c.is_some.ensures ∙ c.if-is_some.false) c.set_place.ensures _ _
     (λ before p. at_past before _ _ _ c.if-header-next.true _ p refl)
 
 pub option_rule-padding_rule-requires-2 : goal.option_rule-padding_rule-requires-2
 option_rule-padding_rule-requires-2 t c =
     let a = c.args in
-    let unbroken = sym (rw (to_the_end a.at a.header.now) at c.is_broken.ensures) ∙ c.if-is_broken.false in
-    let known = rw c.in-Ok.ensures at (kind_known c.in-Ok.kind) in
-    let there = fits a.header.now a.at unbroken in
-    let room = room_placed a.notes.now a.at c.requires.1 _ there.0 _ known in
-    (omega (arith, there, c.decreases), (omega (arith, there), room, there.1, c.requires.3))
+    let there = fits a.header.now a.at (tested a.header.now a.at c.is_broken.ensures c.if-is_broken.false) in
+    let room : Room c.set_place.new.self (a.at + get_or a.header.now (a.at + 1) 0) =
+    rw c.set_place.ensures (room_placed a.notes.now a.at c.requires.0 _ there.0 (kind_number c.in-Ok.kind) a.at) in
+    (omega (arith, there, c.decreases), (room, there.1, c.requires.2))
 
 pub option_rule-returns : goal.option_rule-returns
 option_rule-returns t c =
     let a = c.args in
-    let unbroken = sym (rw (to_the_end a.at a.header.now) at c.is_broken.ensures) ∙ c.if-is_broken.false in
-    let known = rw c.in-Ok.ensures at (kind_known c.in-Ok.kind) in
-    let right = rw c.in-Ok.ensures at (sym c.is_wrong_length.ensures ∙ c.if-is_wrong_length.false) in
-    with_place a.header.now a.notes.now a.at c.requires.1.octets c.requires.0 unbroken known right (omega (arith, c.if-notes-index-ne0.false)) _ _
-    c.padding_rule-2.ensures
+    let unbroken = tested a.header.now a.at c.is_broken.ensures c.if-is_broken.false in
+    let right = sym c.is_wrong_length.ensures ∙ c.if-is_wrong_length.false in
+    with_place a.header.now a.at unbroken a.notes.now _ c.in-Ok.kind c.requires.0.kinds c.in-Ok.ensures right
+    (ap is_some (sym c.place.ensures) ∙ sym c.is_some.ensures ∙ c.if-is_some.false) c.set_place.ensures _ _ c.padding_rule-2.ensures
 
 pub padding_rule-returns-then-header-at : goal.padding_rule-returns-then-header-at
 padding_rule-returns-then-header-at t c = λ before p.
     let a = c.args in
     let nops = c.after_nops-at in
-    let size = c.requires.1.octets in
-    let more = nops.result - a.from in
-    nops.ensures.passed before _ 0 _
-    (at_past before _ a.header.now nops.result c.if-header-at.true _ (stepped_noted a.notes.now size more before p) (stepped_steps a.notes.now size more))
+    let n = nops.result - a.from in
+    nops.ensures.passed before _ _ _
+    (at_past before _ a.header.now nops.result c.if-header-at.true (stepped a.notes.now n) (stepped_noted a.notes.now before p n) refl)
 
 pub padding_rule-returns-then-header-at-eq-END : goal.padding_rule-returns-then-header-at-eq-END
 padding_rule-returns-then-header-at-eq-END t c = λ before p.
     let a = c.args in
     let nops = c.after_nops-at in
-    let size = c.requires.1.octets in
-    let more = nops.result - a.from in
-    let notes = a.notes.now in
-    let counted = stepped_size notes size more in
-    let later = stepped notes size more in
-    nops.ensures.passed before _ 0 _
-    (at_end before _ a.header.now nops.result (omega (arith, c.if-header-at.false)) (omega (arith, c.if-header-at-eq-END.true)) _
-    (stepped_noted later counted 1 before (stepped_noted notes size more before p)) (omega (arith, stepped_steps later counted 1, stepped_steps notes size more)))
+    let later = stepped a.notes.now (nops.result - a.from) in
+    nops.ensures.passed before _ _ _
+    (at_end before _ a.header.now nops.result (omega (arith, c.if-header-at.false)) (omega (arith, c.if-header-at-eq-END.true))
+    (stepped later 1) (stepped_noted later before (stepped_noted a.notes.now before p (nops.result - a.from)) 1) refl)
 
 pub padding_rule-returns : goal.padding_rule-returns
 padding_rule-returns t c = λ before p.
     let a = c.args in
     let nops = c.after_nops-at in
-    let size = c.requires.1.octets in
-    let more = nops.result - a.from in
     let within : nops.result < length a.header.now = omega (arith, c.if-header-at.false) in
-    let o = c.option_rule.ensures before (stepped_noted a.notes.now size more before p) in
-    nops.ensures.passed before _ c.option_rule.result _
-    (at_option before _ a.header.now nops.result within (λ e. c.if-header-at-eq-END.false (omega (arith, e))) (nops.ensures.no_nop within)
-    (stepped_steps a.notes.now size more) c.option_rule.result _ o)
+    nops.ensures.passed before _ _ _
+    (at_option before _ a.header.now nops.result within _ _ (λ e. c.if-header-at-eq-END.false (omega (arith, e))) (nops.ensures.no_nop within)
+    (c.option_rule.ensures before (stepped_noted a.notes.now before p (nops.result - a.from))))
