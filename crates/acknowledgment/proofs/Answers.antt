@@ -12,7 +12,7 @@ use Rattle.octets.specs.Octets.{stored}
 use Rattle.octets.proofs.Stores.{first_stored, later_stored, length_stored}
 use Rattle.writer.specs.Writing.{writing}
 use Rattle.writer.specs.declared.Ports.{Ports}
-use Rattle.writer.specs.Writing as writer_answer
+use Rattle.writer.specs.Writing as writer_specs
 use Rattle.writer.proofs.Answers as writer
 use Rattle.writer.proofs.Lengths.{length_options, length_written, units_most}
 use Rattle.connection.specs.Calls.{acknowledgment, called}
@@ -57,7 +57,7 @@ module _ (k : Connection) (ports : Ports) (clock : ℕ) (buffer : List ℕ) wher
   writes_if on room = on_time on ∙ ap (answered_by k) (writer.writes_if (own_header k ports) (own_options k clock) buffer room)
 
   -- where the clock is not refused, as the writer answered
-  pub by_writing : since ≤ clock → {w : writer_answer.Answer} → w ≡ writing (own_header k ports) (own_options k clock) buffer → answered_by k w ≡ a
+  pub by_writing : since ≤ clock → {w : writer_specs.Answer} → w ≡ writing (own_header k ports) (own_options k clock) buffer → answered_by k w ≡ a
   by_writing on e = ap (answered_by k) e ∙ sym (on_time on)
 
   by_cases : (P : Answer → Type 0) → (clock < since → P (refused 8 buffer k))

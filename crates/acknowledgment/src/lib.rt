@@ -148,6 +148,7 @@ fn record_after(k: Connection) -> Connection
 }
 
 // Writes the acknowledgment of a record at the start of the buffer, and leaves the octets after it: E8, then E7.
+#[tactic(auto, using(crate::proofs::Answers::clock_back_if, connection::proofs::Keeping::acknowledged_sound))]
 pub fn write(
     k: Connection,
     ports: Ports,

@@ -1,7 +1,7 @@
 -- How many octets are written, and which SACK blocks fit among them. Assumes nothing.
 use mathlib.Core.Bool.{Bool, true, false, cond}
 use mathlib.Core.List.{List, [], ◌∷◌, ◌++◌}
-use mathlib.Core.Path.{◌≡◌, refl}
+use mathlib.Core.Path.{◌≡◌, refl, ap}
 use Prim.Native.Nat.{ℕ, ◌+◌, ◌-◌, ◌*◌, ◌/◌, ◌%◌, ◌≤◌, ◌<◌}
 use native.Mathlib.Omega.{arith}
 use lib.ListN.{length, length-append, length-take}
@@ -18,29 +18,6 @@ use Rattle.writer.specs.declared.Header.{Header}
 pub record Aligned (octets : List ℕ) (n : ℕ) : Type 0 where
   pub whole : length octets % 4 ≡ 0
   pub most : length octets ≤ n
-
-aligned_append : {a b : List ℕ} {m n : ℕ} → Aligned a m → Aligned b n → Aligned (a ++ b) (m + n)
-aligned_append {a} {b} p q = record {
-  whole = omega (arith, length-append a b);
-  most = omega (arith, length-append a b);
-}
-
-pub aligned_mss : (mss : Option ℕ) → Aligned (mss_written mss) 4
-unfolding mss_written big_endian
-aligned_mss None = record { whole = refl; most = omega arith }
-aligned_mss (Some n) = record { whole = refl; most = omega arith }
-
-pub aligned_timestamps : (permitted : Bool) (t : Option Timestamps) → Aligned (timestamps_written permitted t) 12
-unfolding timestamps_written big_endian
-aligned_timestamps false None = record { whole = refl; most = omega arith }
-aligned_timestamps true None = record { whole = refl; most = omega arith }
-aligned_timestamps false (Some t) = record { whole = refl; most = omega arith }
-aligned_timestamps true (Some t) = record { whole = refl; most = omega arith }
-
-pub aligned_scale : (scale : Option ℕ) → Aligned (scale_written scale) 4
-unfolding scale_written
-aligned_scale None = record { whole = refl; most = omega arith }
-aligned_scale (Some n) = record { whole = refl; most = omega arith }
 
 -- the octets of each option, where it is there
 pub length_mss : (mss : Option ℕ) → length (mss_written mss) ≡ cond (is_some mss) 4 0
@@ -60,6 +37,15 @@ pub length_scale : (scale : Option ℕ) → length (scale_written scale) ≡ con
 unfolding scale_written
 length_scale None = refl
 length_scale (Some n) = refl
+
+four : (t : Bool) → (cond t 4 0 % 4 ≡ 0) × (cond t 4 0 ≤ 4)
+four true = (refl, omega arith)
+four false = (refl, omega arith)
+
+twelve : (s t : Bool) → (cond s 12 (cond t 4 0) % 4 ≡ 0) × (cond s 12 (cond t 4 0) ≤ 12)
+twelve true t = (refl, omega arith)
+twelve false true = (refl, omega arith)
+twelve false false = (refl, omega arith)
 
 pub length_blocks : (bs : List Range) → length (blocks_written bs) ≡ 8 * length bs
 unfolding blocks_written big_endian
@@ -84,10 +70,23 @@ aligned_sack (b ∷ bs) m least few =
     record { whole = omega (arith, length_blocks (b ∷ bs)); most = omega (arith, length_blocks (b ∷ bs)) }
 
 module _ (o : Options) where
-  pub aligned_others : Aligned (others_written o) 20
+  pub length_others : length (others_written o)
+      ≡ cond (is_some o.mss) 4 0 + cond (is_some o.timestamps) 12 (cond o.permitted 4 0) + cond (is_some o.scale) 4 0
   unfolding others_written
-  aligned_others =
-      aligned_append (aligned_mss o.mss) (aligned_append (aligned_timestamps o.permitted o.timestamps) (aligned_scale o.scale))
+  length_others = omega (
+    arith,
+    length-append (mss_written o.mss) (timestamps_written o.permitted o.timestamps ++ scale_written o.scale),
+    length-append (timestamps_written o.permitted o.timestamps) (scale_written o.scale),
+    length_mss o.mss,
+    length_timestamps o.permitted o.timestamps,
+    length_scale o.scale,
+  )
+
+  pub aligned_others : Aligned (others_written o) 20
+  aligned_others = record {
+    whole = omega (arith, length_others, four (is_some o.mss), twelve (is_some o.timestamps) o.permitted, four (is_some o.scale));
+    most = omega (arith, length_others, four (is_some o.mss), twelve (is_some o.timestamps) o.permitted, four (is_some o.scale));
+  }
 
   pub fitting_most : length (fitting o) ≤ block_room (length (others_written o))
   unfolding fitting
@@ -102,16 +101,25 @@ module _ (o : Options) where
   unfolding fitting
   fits few = take_all _ o.blocks few
 
-  pub aligned_options : Aligned (options_written o) 40
+  pub length_parts : length (options_written o) ≡ length (others_written o) + length (sack_written (fitting o))
   unfolding options_written
+  length_parts = length-append (others_written o) (sack_written (fitting o))
+
+  pub aligned_options : Aligned (options_written o) 40
   aligned_options =
-      let others : Aligned (others_written o) 20 = aligned_others in
       let left : ℕ = 40 - length (others_written o) in
-      let sack : Aligned (sack_written (fitting o)) left = aligned_sack (fitting o) left (omega arith) (omega (arith, fitting_most)) in
+      let sack : Aligned (sack_written (fitting o)) left = aligned_sack (fitting o) left (omega (arith, aligned_others.most)) (omega (arith, fitting_most)) in
       record {
-        whole = (aligned_append others sack).whole;
-        most = omega (arith, length-append (others_written o) (sack_written (fitting o)));
+        whole = omega (arith, length_parts, aligned_others.whole, sack.whole);
+        most = omega (arith, length_parts, aligned_others.most, sack.most);
       }
+
+  pub options_most : length (options_written o) ≤ 40
+  options_most = aligned_options.most
+
+  -- whichever way the blocks that fit are known
+  pub length_with : (bs : List Range) → bs ≡ fitting o → length (others_written o) + length (sack_written bs) ≡ length (options_written o)
+  length_with bs are = omega (arith, length_parts, ap (λ (l : List Range). length (sack_written l)) are)
 
   -- of 4 octets, as the data offset counts them
   abbrev pub units : ℕ

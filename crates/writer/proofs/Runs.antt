@@ -1,6 +1,6 @@
 -- Runs of octets that a cursor writes one after the other, and numbers as such runs. Assumes nothing.
 use mathlib.Core.List.{List, [], ◌∷◌, ◌++◌, append_assoc, append-nil}
-use mathlib.Core.Path.{◌≡◌, refl, sym, ap, ◌∙◌}
+use mathlib.Core.Path.{◌≡◌, refl, sym, ap, subst, ◌∙◌}
 use Prim.Native.Nat.{ℕ, ◌+◌, ◌/◌, ◌%◌, ◌≤◌, ◌<◌}
 use native.Mathlib.Numerals.{add-one}
 use native.Mathlib.Omega.{arith}
@@ -9,11 +9,12 @@ use lib.Seq.{drop-cons, drop-drop, length-sets, sets, sets-eq, take-suc}
 use Rattle.std.specs.Int.{bytes_high_first}
 use Rattle.serial.specs.declared.Range.{Range}
 use Rattle.octets.specs.Octets.{big_endian}
+use Rattle.segment.specs.declared.Options.{Options}
 use Rattle.octets.proofs.Stores.{sets_append}
 use Rattle.writer.specs.Cursor.{HasRoom, Writes}
-use Rattle.writer.specs.Writing.{blocks_written}
+use Rattle.writer.specs.Writing.{blocks_written, fitting, mss_written, options_written, sack_written, scale_written, timestamps_written}
 use Rattle.writer.specs.declared.cursor.Cursor.{Cursor}
-use Rattle.writer.proofs.OptionOctets.{blocks_split}
+use Rattle.writer.proofs.OptionOctets.{blocks_split, in_order}
 
 pub writes_none : (a : Cursor) → Writes a a []
 writes_none a = record { same_reference = refl; octets = refl; next = omega arith }
@@ -35,6 +36,12 @@ module _ {a b : Cursor} {xs : List ℕ} (first : Writes a b xs) where
 
 pub room_first : {a : Cursor} (xs ys : List ℕ) → HasRoom a (xs ++ ys) → HasRoom a xs
 room_first xs ys both = record { room = omega (arith, both.room, length-append xs ys) }
+
+-- room for the options is room for each of them in turn
+pub options_room : {a : Cursor} (o : Options) (bs : List Range) → bs ≡ fitting o → a.at + length (options_written o) ≤ length a.octets.now
+    → HasRoom a (mss_written o.mss ++ (timestamps_written o.permitted o.timestamps ++ (scale_written o.scale ++ sack_written bs)))
+options_room {a} o bs are room =
+    rw are (subst (HasRoom a) (in_order o) (record { room = room }))
 
 -- what `copy_from_slice` leaves of a part, in the whole
 pub run_stored : (xs : List ℕ) (a k : ℕ) (part run : List ℕ) → part ≡ run → k ≡ length run → a + length run ≤ length xs

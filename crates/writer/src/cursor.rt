@@ -10,6 +10,7 @@ pub struct Cursor<'a> {
 }
 
 impl Cursor<'_> {
+    #[tactic(auto, using(crate::proofs::Runs::run_stored))]
     pub fn put(&mut self, run: &[u8])
         requires { HasRoom self.old run.now }
         ensures { Writes self.old self.new run.now }
@@ -20,6 +21,7 @@ impl Cursor<'_> {
     }
 
     // Two numbers, each with its highest octet first.
+    #[tactic(auto, using(crate::proofs::Runs::room_first, crate::proofs::Runs::room_then))]
     pub fn put_pair(&mut self, first: u32, second: u32)
         requires { HasRoom self.old (big_endian 4 first ++ big_endian 4 second) }
         ensures { Writes self.old self.new (big_endian 4 first ++ big_endian 4 second) }
@@ -28,6 +30,7 @@ impl Cursor<'_> {
         self.put_u32(second);
     }
 
+    #[tactic(auto, using(crate::proofs::Runs::octets_of_u32), unfolding(octets::specs::Octets::big_endian))]
     fn put_u32(&mut self, n: u32)
         requires { HasRoom self.old (big_endian 4 n) }
         ensures { Writes self.old self.new (big_endian 4 n) }

@@ -21,6 +21,7 @@ fn flags_octet(flags: Flags) -> u8
 }
 
 // Octets 0 to 19, with the data offset in units of 4 octets.
+#[tactic(auto, unfolding(crate::specs::Writing::header_written, octets::specs::Octets::big_endian))]
 pub fn write_header(octets: &mut [u8], header: Header, units: u8)
     requires { units ≤ 15 }
     ensures { octets.new ≡ sets octets.old 0 (header_written header units) }

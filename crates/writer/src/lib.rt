@@ -51,6 +51,7 @@ impl Numbered for BufferTooShort {
 
 // Writes header and options of a segment without payload at the start of the buffer, leaves the octets after them, and answers how many
 // octets they are. Of the SACK blocks as many are written as fit. A buffer that is too short stays as it is.
+#[tactic(auto, using(crate::proofs::Answers::refuses_if, crate::proofs::Answers::writes_if, crate::proofs::Lengths::length_written, crate::proofs::Storing::whole_stored))]
 pub fn write(header: Header, options: Options, buffer: &mut [u8]) -> Result<usize, BufferTooShort>
     ensures { shown_writing result buffer.new ≡ writing header options buffer.old }
 {

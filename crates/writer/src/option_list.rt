@@ -12,6 +12,7 @@ use serial::Range;
 
 // Each of these writes an option, if it is there.
 
+#[tactic(auto, using(crate::proofs::Runs::writes_none), unfolding(crate::specs::Writing::mss_written, octets::specs::Octets::big_endian))]
 fn write_mss(out: &mut Cursor<'_>, mss: Option<u16>)
     requires { HasRoom out.old (mss_written mss) }
     ensures { Writes out.old out.new (mss_written mss) }
@@ -23,6 +24,7 @@ fn write_mss(out: &mut Cursor<'_>, mss: Option<u16>)
 }
 
 // SACK-permitted and timestamps share their place.
+#[tactic(auto, using(crate::proofs::Runs::writes_none, crate::proofs::Runs::writes_then, crate::proofs::Runs::room_then), unfolding(crate::specs::Writing::timestamps_written))]
 fn write_timestamps(out: &mut Cursor<'_>, permitted: bool, timestamps: Option<Timestamps>)
     requires { HasRoom out.old (timestamps_written permitted timestamps) }
     ensures { Writes out.old out.new (timestamps_written permitted timestamps) }
@@ -41,6 +43,7 @@ fn write_timestamps(out: &mut Cursor<'_>, permitted: bool, timestamps: Option<Ti
     }
 }
 
+#[tactic(auto, using(crate::proofs::Runs::writes_none), unfolding(crate::specs::Writing::scale_written))]
 fn write_scale(out: &mut Cursor<'_>, scale: Option<u8>)
     requires { HasRoom out.old (scale_written scale) }
     ensures { Writes out.old out.new (scale_written scale) }
@@ -50,6 +53,7 @@ fn write_scale(out: &mut Cursor<'_>, scale: Option<u8>)
     }
 }
 
+#[tactic(auto, using(crate::proofs::Lengths::no_sack, crate::proofs::OptionOctets::sack_parts, crate::proofs::Runs::blocks_left, crate::proofs::Runs::blocks_more, crate::proofs::Runs::room_first, crate::proofs::Runs::room_then, crate::proofs::Runs::writes_none, crate::proofs::Runs::writes_then), unfolding(crate::specs::Writing::blocks_written))]
 fn write_sack(out: &mut Cursor<'_>, blocks: &[Range])
     requires few { length blocks.now ≤ 4 }
     requires room { HasRoom out.old (sack_written blocks.now) }
@@ -65,6 +69,7 @@ fn write_sack(out: &mut Cursor<'_>, blocks: &[Range])
 }
 
 // The options after the fixed header, with those of the blocks that fit.
+#[tactic(auto, using(crate::proofs::Lengths::few_fit))]
 pub fn write_options(octets: &mut [u8], options: &Options, blocks: &[Range])
     requires fit { blocks.now ≡ fitting options.now }
     requires room { 20 + length (options_written options.now) ≤ length octets.old }

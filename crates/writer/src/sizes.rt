@@ -13,6 +13,7 @@ fn size_if(there: bool, size: usize) -> usize
 }
 
 // All options but SACK.
+#[tactic(auto, using(crate::proofs::Lengths::length_others))]
 fn others_size(options: &Options) -> usize
     ensures { (result ≡ length (others_written options.now)) × (result ≤ 20) }
 {
@@ -27,6 +28,7 @@ fn others_size(options: &Options) -> usize
     mss + timestamps + scale
 }
 
+#[tactic(auto, using(crate::proofs::Lengths::length_sack, crate::proofs::Lengths::no_sack))]
 fn sack_size(blocks: &[Range]) -> usize
     requires { length blocks.now ≤ 4 }
     ensures { result ≡ length (sack_written blocks.now) }
@@ -38,6 +40,7 @@ fn sack_size(blocks: &[Range]) -> usize
 }
 
 // As many of the first blocks as fit beside the other options.
+#[tactic(auto, unfolding(crate::specs::Writing::fitting))]
 pub fn fitting(options: &Options) -> SackBlocks
     ensures { result ≡ fitting options.now }
 {
@@ -46,6 +49,7 @@ pub fn fitting(options: &Options) -> SackBlocks
 }
 
 // Header and options, with those of the blocks that fit.
+#[tactic(auto, using(crate::proofs::Lengths::few_fit, crate::proofs::Lengths::length_with, crate::proofs::Lengths::options_most))]
 pub fn size(options: &Options, blocks: &[Range]) -> usize
     requires { blocks.now ≡ fitting options.now }
     ensures { (result ≡ 20 + length (options_written options.now)) × (result ≤ 60) }

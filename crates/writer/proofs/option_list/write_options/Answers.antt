@@ -1,31 +1,27 @@
 -- `option_list::write_options` meets its contract. Assumes nothing.
 use mathlib.Core.Path.{subst, sym}
 use Rattle.std.proofs.Common.{rules}
-use Rattle.writer.specs.Cursor.{HasRoom, Writes}
-use Rattle.writer.proofs.Lengths.{few_fit}
+use Rattle.writer.specs.Cursor.{Writes}
 use Rattle.writer.proofs.OptionOctets.{in_order}
-use Rattle.writer.proofs.Runs.{room_first, room_then, writes_then}
+use Rattle.writer.proofs.Runs.{options_room, room_first, room_then, writes_then}
 use Rattle.writer.proofs.option_list.write_options.Goals as goal
 
 pub write_mss-requires : goal.write_mss-requires
-write_mss-requires c = room_first _ _ (subst (HasRoom _) (in_order c.args.options.now) (record { room = c.requires.room }))
+write_mss-requires c = room_first _ _ (options_room c.args.options.now _ c.requires.fit c.requires.room)
 
 pub write_timestamps-requires : goal.write_timestamps-requires
 write_timestamps-requires c =
-    room_first _ _ (room_then c.write_mss.ensures _ (subst (HasRoom _) (in_order c.args.options.now) (record { room = c.requires.room })))
+    room_first _ _ (room_then c.write_mss.ensures _ (options_room c.args.options.now _ c.requires.fit c.requires.room))
 
 pub write_scale-requires : goal.write_scale-requires
 write_scale-requires c =
     room_first _ _ (room_then c.write_timestamps.ensures _ (room_then c.write_mss.ensures _
-    (subst (HasRoom _) (in_order c.args.options.now) (record { room = c.requires.room }))))
-
-pub write_sack-requires-clause-few : goal.write_sack-requires-clause-few
-write_sack-requires-clause-few c = rw c.requires.fit (few_fit c.args.options.now)
+    (options_room c.args.options.now _ c.requires.fit c.requires.room)))
 
 pub write_sack-requires-clause-room : goal.write_sack-requires-clause-room
 write_sack-requires-clause-room c =
-    rw c.requires.fit (room_then c.write_scale.ensures _ (room_then c.write_timestamps.ensures _ (room_then c.write_mss.ensures _
-    (subst (HasRoom _) (in_order c.args.options.now) (record { room = c.requires.room })))))
+    room_then c.write_scale.ensures _ (room_then c.write_timestamps.ensures _ (room_then c.write_mss.ensures _
+    (options_room c.args.options.now _ c.requires.fit c.requires.room)))
 
 pub returns : goal.returns
 returns c =

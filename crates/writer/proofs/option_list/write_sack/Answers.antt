@@ -1,5 +1,5 @@
 -- `option_list::write_sack` meets its contract. Assumes nothing.
-use mathlib.Core.Path.{sym, subst, ◌≡◌}
+use mathlib.Core.Path.{sym, subst}
 use Prim.Native.Nat.{◌<◌}
 use native.Mathlib.Omega.{arith}
 use lib.ListN.{length}
@@ -7,31 +7,15 @@ use lib.Seq.{take_all}
 use Rattle.std.proofs.lemmas.Bool.Decides.{nat_tests}
 use Rattle.writer.specs.Cursor.{HasRoom, Writes}
 use Rattle.writer.specs.Writing.{blocks_written}
-use Rattle.writer.proofs.Lengths.{no_sack}
 use Rattle.writer.proofs.OptionOctets.{sack_parts}
-use Rattle.writer.proofs.Runs.{blocks_left, blocks_more, room_first, room_then, writes_none, writes_then}
+use Rattle.writer.proofs.Runs.{blocks_left, blocks_more, room_then, writes_none, writes_then}
 use Rattle.writer.proofs.option_list.write_sack.Goals as goal
-
-pub returns-then-is_empty : goal.returns-then-is_empty
-returns-then-is_empty c =
-    let none : length c.args.blocks.now ≡ 0 = grind (arith, nat_tests) in
-    subst (Writes _ _) (sym (no_sack _ none)) (writes_none _)
-
-pub put-requires : goal.put-requires
-put-requires c =
-    let some : 0 < length c.args.blocks.now = grind (arith, nat_tests) in
-    room_first _ _ (subst (HasRoom _) (sack_parts _ some) c.requires.room)
 
 pub loop-block-init : goal.loop-block-init
 unfolding blocks_written
 loop-block-init c =
     let some : 0 < length c.args.blocks.now = grind (arith, nat_tests) in
     (writes_none _, room_then c.put.ensures _ (subst (HasRoom _) (sack_parts _ some) c.requires.room))
-
-pub put_pair-requires : goal.put_pair-requires
-put_pair-requires c =
-    let i = c.loop-block.block-index in
-    room_first _ _ (subst (HasRoom _) (blocks_left c.args.blocks.now i _ c.loop-block-test.true) c.loop-block.invariant.1)
 
 pub loop-block-preserved : goal.loop-block-preserved
 loop-block-preserved c =
