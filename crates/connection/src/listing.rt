@@ -13,7 +13,9 @@ impl Connection {
     {
         let mut listed = SackBlocks::none();
         if self.sack {
-            for block in s.options.blocks.as_slice() {
+            // A copy is gone through, so that the compiler can keep the segment in registers.
+            let blocks = s.options.blocks;
+            for block in blocks.as_slice() {
                 if self.send.is_listed(*block) {
                     listed.push(*block);
                 }

@@ -81,9 +81,10 @@ module _ (before : List Step) (at : ℕ) (octets : List ℕ) where
   pub noted_after : (notes later : Notes) → Noted before notes → is_repeated before kind ≡ false
       → ((k : ℕ) → is_known k ≡ true → get_or later.places k None ≡ cond (eqb kind k) (Some at) (get_or notes.places k None))
       → later.skipped ≡ cond (is_known kind) notes.skipped (notes.skipped + 1)
-      → Noted after later
-  noted_after notes later p new places skipped = record {
+      → later.refusal ≡ notes.refusal → Noted after later
+  noted_after notes later p new places skipped refusal = record {
     places = λ k known.
         places k known ∙ ap (cond (eqb kind k) (Some at)) (p.places k known) ∙ sym (place_after k (new_kind new k known));
     skipped = skipped ∙ ap (λ (n : ℕ). cond (is_known kind) n (n + 1)) p.skipped ∙ sym skipped_after;
+    no_fault = refusal ∙ p.no_fault;
   }

@@ -6,12 +6,12 @@ use mathlib.Core.Path.{◌≡◌, refl, sym, ap, subst, ◌∙◌}
 use Prim.Native.Nat.{ℕ, ◌+◌}
 use native.Mathlib.Omega.{arith}
 use lib.Dec.{eqb}
-use Rattle.std.specs.Prelude.{Result, Ok, Err}
+use Rattle.std.specs.Prelude.{Some}
 use lib.ListN.{get_or, length}
 use borrow.Author.Tests.{ne_eqb}
 use Rattle.segment.specs.Grammar.{Step, nop, end, whole, broken}
 use Rattle.segment.specs.Options.{Found, fault_at, fault_in, found, is_found, is_known, is_repeated, is_wrong_length, nothing, option_in, skipped_in, step_place, up_to_fault}
-use Rattle.segment.specs.Internal.{Noted, Outcome, place_of}
+use Rattle.segment.specs.Internal.{Noted, Outcome, fault_of, place_of}
 use Rattle.segment.specs.Reading.{fault_place, number_of, number_positive}
 use Rattle.segment.specs.declared.Refusal.{Refusal}
 use Rattle.segment.specs.declared.notes.Notes.{Notes}
@@ -26,6 +26,7 @@ same_noted : (a b : List Step) (notes : Notes) → SameOptions a b → Noted a n
 same_noted a b notes e p = record {
   places = λ kind known. p.places kind known ∙ ap place_of (e.found_same (kind ∷ []));
   skipped = p.skipped ∙ e.skipped_same;
+  no_fault = p.no_fault;
 }
 
 same_after : (a b later : List Step) → SameOptions a b → SameOptions (a ++ later) (b ++ later)
@@ -56,41 +57,41 @@ same_faults a b (step ∷ later) e =
       rw (here, after.1),
     )
 
-same_outcome : (a b : List Step) (k : ℕ) (later : List Step) (answer : Result (Unit {0}) Refusal) (notes : Notes) → SameOptions a b → Outcome a k later answer notes → Outcome b k later answer notes
-same_outcome a b k later answer notes e o = record {
+same_outcome : (a b : List Step) (k : ℕ) (later : List Step) (notes : Notes) → SameOptions a b → Outcome a k later notes → Outcome b k later notes
+same_outcome a b k later notes e o = record {
   fault_is = sym (same_faults a b later e).0 ∙ o.fault_is;
   noted = λ z. same_noted (a ++ later) (b ++ later) notes (same_after a b later e) (o.noted z);
   counted = o.counted ∙ ap (λ (l : List Step). k + length l) (same_faults a b later e).1;
 }
 
 -- nothing is left
-pub outcome_none : (before : List Step) (k : ℕ) (notes : Notes) → Noted before notes → notes.steps ≡ k → Outcome before k [] (Ok tt) notes
+pub outcome_none : (before : List Step) (k : ℕ) (notes : Notes) → Noted before notes → notes.steps ≡ k → Outcome before k [] notes
 unfolding fault_in up_to_fault
 outcome_none before k notes p count = record {
-  fault_is = refl;
+  fault_is = sym (ap fault_of p.no_fault);
   noted = λ z. subst (λ (steps : List Step). Noted steps notes) (sym (append-nil before)) p;
   counted = omega (arith, count);
 }
 
 module _ (before : List Step) (k : ℕ) (step : Step) (later : List Step) (notes : Notes) where
   -- a step without fault joins those before
-  pub outcome_on : (answer : Result (Unit {0}) Refusal) → fault_at before step ≡ 0 → Outcome (before ++ (step ∷ [])) (k + 1) later answer notes
-      → Outcome before k (step ∷ later) answer notes
+  pub outcome_on : fault_at before step ≡ 0 → Outcome (before ++ (step ∷ [])) (k + 1) later notes
+      → Outcome before k (step ∷ later) notes
   unfolding fault_in up_to_fault
-  outcome_on answer e o = record {
+  outcome_on e o = record {
     fault_is = rw e o.fault_is;
     noted = λ z. subst (λ (steps : List Step). Noted steps notes) (append_assoc before (step ∷ []) later) (o.noted z);
     counted = rw e (omega (arith, o.counted));
   }
 
   -- a fault decides: its place is the step's, and the step is the last that counts
-  pub outcome_fault : (why : Refusal) → fault_at before step ≡ number_of why → some (step_place step) ≡ fault_place why → notes.steps ≡ k + 1
-      → Outcome before k (step ∷ later) (Err why) notes
+  pub outcome_fault : (why : Refusal) → notes.refusal ≡ Some why → fault_at before step ≡ number_of why → some (step_place step) ≡ fault_place why → notes.steps ≡ k + 1
+      → Outcome before k (step ∷ later) notes
   unfolding fault_in up_to_fault
-  outcome_fault why e place count =
+  outcome_fault why is e place count =
       let given : eqb (number_of why) 0 ≡ false = ne_eqb (number_of why) 0 (λ z. omega (arith, number_positive why, z)) in
       record {
-        fault_is = rw (e, ← place) (simp given);
+        fault_is = rw (is, e, ← place) (simp given);
         noted = λ z. cc;
         counted = rw e (simp given count);
       }
@@ -108,41 +109,45 @@ no_option before step e z = record {
     alone nothing = refl
     alone (found at octets) = refl
 
-module _ (before : List Step) (k at : ℕ) where
-  pub outcome_nop : (later : List Step) (answer : Result (Unit {0}) Refusal) (notes : Notes) → Outcome before (k + 1) later answer notes
-      → Outcome before k (nop at ∷ later) answer notes
-  unfolding fault_at option_in
-  outcome_nop later answer notes o =
-      outcome_on before k (nop at) later notes answer refl
-      (same_outcome before _ (k + 1) later answer notes (no_option before (nop at) (λ kinds. refl) refl) o)
+-- the notes with a refusal
+abbrev pub refused : Notes → Refusal → Notes
+refused notes why = record { places = notes.places; steps = notes.steps; skipped = notes.skipped; refusal = Some why }
 
-  pub outcome_end : (notes : Notes) → Noted before notes → notes.steps ≡ k + 1 → Outcome before k (end at ∷ []) (Ok tt) notes
+module _ (before : List Step) (k at : ℕ) where
+  pub outcome_nop : (later : List Step) (notes : Notes) → Outcome before (k + 1) later notes
+      → Outcome before k (nop at ∷ later) notes
+  unfolding fault_at option_in
+  outcome_nop later notes o =
+      outcome_on before k (nop at) later notes refl
+      (same_outcome before _ (k + 1) later notes (no_option before (nop at) (λ kinds. refl) refl) o)
+
+  pub outcome_end : (notes : Notes) → Noted before notes → notes.steps ≡ k + 1 → Outcome before k (end at ∷ []) notes
   unfolding fault_at option_in
   outcome_end notes p count =
-      outcome_on before k (end at) [] notes (Ok tt) refl
-      (same_outcome before _ (k + 1) [] (Ok tt) notes (no_option before (end at) (λ kinds. refl) refl) (outcome_none before (k + 1) notes p count))
+      outcome_on before k (end at) [] notes refl
+      (same_outcome before _ (k + 1) [] notes (no_option before (end at) (λ kinds. refl) refl) (outcome_none before (k + 1) notes p count))
 
   module _ (later : List Step) (notes : Notes) (count : notes.steps ≡ k + 1) where
-    pub outcome_broken : Outcome before k (broken at ∷ later) (Err (Refusal.BrokenOption at)) notes
+    pub outcome_broken : Outcome before k (broken at ∷ later) (refused notes (Refusal.BrokenOption at))
     unfolding fault_at
-    outcome_broken = outcome_fault before k (broken at) later notes _ refl refl count
+    outcome_broken = outcome_fault before k (broken at) later _ _ refl refl refl count
 
     module _ (octets : List ℕ) where
       abbrev kind : ℕ
       kind = get_or octets 0 0
 
       pub outcome_wrong : is_wrong_length kind (length octets) ≡ true
-          → Outcome before k (whole at octets ∷ later) (Err (Refusal.WrongOptionLength at)) notes
+          → Outcome before k (whole at octets ∷ later) (refused notes (Refusal.WrongOptionLength at))
       unfolding fault_at
-      outcome_wrong e = outcome_fault before k (whole at octets) later notes _ (simp e) refl count
+      outcome_wrong e = outcome_fault before k (whole at octets) later _ _ refl (simp e) refl count
 
       pub outcome_repeated : is_wrong_length kind (length octets) ≡ false → is_repeated before kind ≡ true
-          → Outcome before k (whole at octets ∷ later) (Err (Refusal.RepeatedOption at)) notes
+          → Outcome before k (whole at octets ∷ later) (refused notes (Refusal.RepeatedOption at))
       unfolding fault_at
-      outcome_repeated e f = outcome_fault before k (whole at octets) later notes _ (simp (e, f)) refl count
+      outcome_repeated e f = outcome_fault before k (whole at octets) later _ _ refl (simp (e, f)) refl count
 
-  pub outcome_whole : (octets : List ℕ) (later : List Step) (answer : Result (Unit {0}) Refusal) (notes : Notes)
+  pub outcome_whole : (octets : List ℕ) (later : List Step) (notes : Notes)
       → is_wrong_length (get_or octets 0 0) (length octets) ≡ false → is_repeated before (get_or octets 0 0) ≡ false
-      → Outcome (before ++ (whole at octets ∷ [])) (k + 1) later answer notes → Outcome before k (whole at octets ∷ later) answer notes
+      → Outcome (before ++ (whole at octets ∷ [])) (k + 1) later notes → Outcome before k (whole at octets ∷ later) notes
   unfolding fault_at
-  outcome_whole octets later answer notes e f = outcome_on before k (whole at octets) later notes answer (simp (e, f))
+  outcome_whole octets later notes e f = outcome_on before k (whole at octets) later notes (simp (e, f))

@@ -46,28 +46,28 @@ all_none (suc n) (suc k) = all_none n k
 
 -- before any step nothing is noted
 abbrev pub no_notes : Notes
-no_notes = record { places = replicate 9 None; steps = 0; skipped = 0 }
+no_notes = record { places = replicate 9 None; steps = 0; skipped = 0; refusal = None }
 
 pub none_noted : Noted [] no_notes
 unfolding option_in
-none_noted = record { places = λ kind known. all_none 9 kind; skipped = refl }
+none_noted = record { places = λ kind known. all_none 9 kind; skipped = refl; no_fault = refl }
 
 module _ (notes : Notes) where
   -- steps counted
   abbrev pub stepped : ℕ → Notes
-  stepped n = record { places = notes.places; steps = notes.steps + n; skipped = notes.skipped }
+  stepped n = record { places = notes.places; steps = notes.steps + n; skipped = notes.skipped; refusal = notes.refusal }
 
   -- one more option that is skipped
   abbrev pub skipping : Notes
-  skipping = record { places = notes.places; steps = notes.steps; skipped = notes.skipped + 1 }
+  skipping = record { places = notes.places; steps = notes.steps; skipped = notes.skipped + 1; refusal = notes.refusal }
 
   -- the place of an option, at its kind
   abbrev pub placed : ℕ → ℕ → Notes
-  placed kind place = record { places = set notes.places kind (Some place); steps = notes.steps; skipped = notes.skipped }
+  placed kind place = record { places = set notes.places kind (Some place); steps = notes.steps; skipped = notes.skipped; refusal = notes.refusal }
 
   module _ (before : List Step) (p : Noted before notes) where
     pub stepped_noted : (n : ℕ) → Noted before (stepped n)
-    stepped_noted n = record { places = p.places; skipped = p.skipped }
+    stepped_noted n = record { places = p.places; skipped = p.skipped; no_fault = p.no_fault }
 
     module _ (at : ℕ) (option : List ℕ) where
       abbrev its_kind : ℕ
@@ -80,14 +80,14 @@ module _ (notes : Notes) where
       skipping_noted unknown new =
           noted_after before at option notes skipping p new
           (λ k known. simp (ne_eqb its_kind k (λ same. true≢false (sym known ∙ ap is_known (sym same) ∙ unknown))))
-          (simp unknown)
+          (simp unknown) refl
 
       pub placed_noted : length notes.places ≡ 9 → (known : is_known its_kind ≡ true) → is_repeated before its_kind ≡ false
           → Noted with_option (placed its_kind at)
       placed_noted size known new =
           noted_after before at option notes (placed its_kind at) p new
           (λ k _. at_store notes.places its_kind k (Some at) None (omega (arith, size, known_most its_kind known)))
-          (simp known)
+          (simp known) refl
 
 -- Room for the counts after an option of at least two octets.
 module _ (notes : Notes) (at : ℕ) (room : Room notes at) (n : ℕ) (two : 2 ≤ n) where

@@ -1,6 +1,6 @@
 -- What the contracts of private functions cite: what the reader notes of the options while the rules run, and how far a step reaches. No
 -- promise of the crate rests on these.
-use Rattle.std.specs.Prelude.{ℕ, ◌+◌, ◌-◌, ◌*◌, ◌≤◌, ◌<◌, Bool, true, cond, List, [], ◌∷◌, ◌++◌, ◌≡◌, drop, get_or, length, take, Result, Ok, Err, IfSome}
+use Rattle.std.specs.Prelude.{ℕ, ◌+◌, ◌-◌, ◌*◌, ◌≤◌, ◌<◌, Bool, true, cond, List, [], ◌∷◌, ◌++◌, ◌≡◌, drop, get_or, length, take, IfSome}
 use Rattle.std.specs.Prelude as std
 use Rattle.std.proofs.Math.Option.{Option, none, some}
 use Rattle.segment.specs.Grammar.{Step, padding_rule}
@@ -19,6 +19,7 @@ place_of (found place octets) = std.Some place
 pub record Noted (steps : List Step) (notes : Notes) : Type 0 where
   pub places : (kind : ℕ) → is_known kind ≡ true → get_or notes.places kind std.None ≡ place_of (option_of kind steps)
   pub skipped : notes.skipped ≡ skipped_in steps
+  pub no_fault : notes.refusal ≡ std.None
 
 -- a step takes an octet at least, and an option that is skipped two, so that the counts stay within the octets up to a place
 pub record Room (notes : Notes) (at : ℕ) : Type 0 where
@@ -31,28 +32,27 @@ abbrev pub place_or_0 : Option ℕ → ℕ
 place_or_0 none = 0
 place_or_0 (some place) = place
 
--- the fault that the rules answer
-abbrev pub fault_of : Result (Unit {0}) Refusal → Option Fault
-fault_of (Ok u) = none
-fault_of (Err why) = some (record { number = number_of why; place = place_or_0 (fault_place why) })
+-- the fault that the rules note
+abbrev pub fault_of : std.Option Refusal → Option Fault
+fault_of std.None = none
+fault_of (std.Some why) = some (record { number = number_of why; place = place_or_0 (fault_place why) })
 
 -- what the rules make of some steps that follow others, of which `earlier` counted: the first fault, or what is noted of all; and how many
 -- steps then count
-pub record Outcome (before : List Step) (earlier : ℕ) (steps : List Step) (answer : Result (Unit {0}) Refusal) (notes : Notes) : Type 0 where
-  pub fault_is : fault_in before steps ≡ fault_of answer
-  pub noted : answer ≡ Ok tt → Noted (before ++ steps) notes
+pub record Outcome (before : List Step) (earlier : ℕ) (steps : List Step) (notes : Notes) : Type 0 where
+  pub fault_is : fault_in before steps ≡ fault_of notes.refusal
+  pub noted : notes.refusal ≡ std.None → Noted (before ++ steps) notes
   pub counted : notes.steps ≡ earlier + length (up_to_fault before steps)
 
--- what a rule answers and notes, from notes that are those of the steps before
-abbrev pub Answers : List Step → Notes → Result (Unit {0}) Refusal → Notes → Type 0
-Answers steps notes answer after = (before : List Step) → Noted before notes → Outcome before notes.steps steps answer after
+-- what a rule notes, from notes that are those of the steps before
+abbrev pub Answers : List Step → Notes → Notes → Type 0
+Answers steps notes after = (before : List Step) → Noted before notes → Outcome before notes.steps steps after
 
 -- each octet from a place up to another is a NOP, and one step: what follows them then decides
 abbrev pub NopsPassed : List ℕ → ℕ → ℕ → Type 0
 NopsPassed header from at =
-    (before : List Step) (earlier : ℕ) (answer : Result (Unit {0}) Refusal) (notes : Notes)
-    → Outcome before (earlier + (at - from)) (padding_rule at (drop at header)) answer notes
-    → Outcome before earlier (padding_rule from (drop from header)) answer notes
+    (before : List Step) (earlier : ℕ) (notes : Notes) → Outcome before (earlier + (at - from)) (padding_rule at (drop at header)) notes
+    → Outcome before earlier (padding_rule from (drop from header)) notes
 
 -- the first place that has no NOP
 pub record AfterNops (header : List ℕ) (from at : ℕ) : Type 0 where

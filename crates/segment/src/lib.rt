@@ -157,9 +157,9 @@ pub fn read(segment: &[u8]) -> Reading
         return Reading::unread(Refusal::BadDataOffset);
     }
     let mut notes = Notes::new();
-    let answer = rules::padding_rule(&segment[0..end], FIXED_HEADER, &mut notes);
+    rules::padding_rule(&segment[0..end], FIXED_HEADER, &mut notes);
     let steps = notes.steps;
-    if let Err(why) = answer {
+    if let Some(why) = notes.refusal {
         // Returned at once, so that the fields of a segment are stored as they are read.
         return Reading {
             outcome: Err(why),

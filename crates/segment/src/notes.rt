@@ -2,6 +2,7 @@
 ghost use Rattle.std.specs.Prelude.{◌≡◌, None, Some, get_or, replicate, set};
 ghost use Rattle.segment.specs.Kinds.{kind_number};
 
+use super::Refusal;
 use super::kinds::Kind;
 
 // One more than the last known kind.
@@ -15,16 +16,19 @@ pub struct Notes {
     pub steps: usize,
     // How many unknown options were skipped.
     pub skipped: usize,
+    // Why the list is refused.
+    pub refusal: Option<Refusal>,
 }
 
 impl Notes {
     pub fn new() -> Notes
-        ensures { result ≡ record { places = replicate 9 None; steps = 0; skipped = 0 } }
+        ensures { result ≡ record { places = replicate 9 None; steps = 0; skipped = 0; refusal = None } }
     {
         Notes {
             places: [None; KINDS],
             steps: 0,
             skipped: 0,
+            refusal: None,
         }
     }
 
@@ -34,9 +38,11 @@ impl Notes {
         self.places[kind as usize]
     }
 
-    pub fn set_place(&mut self, kind: Kind, place: u8)
-        ensures { self.new ≡ record self.old { places = set self.old.places (kind_number kind) (Some place) } }
+    // Notes the place of an option, and answers the one that was noted of its kind before.
+    pub fn set_place(&mut self, kind: Kind, place: u8) -> Option<u8>
+        ensures before { result ≡ get_or self.old.places (kind_number kind) None }
+        ensures noted { self.new ≡ record self.old { places = set self.old.places (kind_number kind) (Some place) } }
     {
-        self.places[kind as usize] = Some(place);
+        self.places[kind as usize].replace(place)
     }
 }

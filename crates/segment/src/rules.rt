@@ -1,5 +1,5 @@
-// The two rules that read the options: each passes what is left to the other. They answer why the list is refused, if it is, and note the
-// rest.
+// The two rules that read the options: each passes what is left to the other. They note what they read and answer nothing, so that a call of the
+// other rule is the last thing that a rule does: a Result would go through memory at each option.
 ghost use Rattle.std.specs.Prelude.{◌≡◌, ◌≤◌, ◌<◌, drop, length};
 ghost use Rattle.segment.specs.Grammar.{is_broken, option_rule, padding_rule};
 ghost use Rattle.segment.specs.Options.{is_wrong_length};
@@ -12,20 +12,20 @@ use super::notes::Notes;
 
 // Passes NOPs from `from` on and ends the list at kind 0 or at the header's end.
 #[cycle(option_rule_padding_rule)]
-pub fn padding_rule(header: &[u8], from: usize, notes: &mut Notes) -> Result<(), Refusal>
+pub fn padding_rule(header: &[u8], from: usize, notes: &mut Notes)
     requires { Room notes.old from × (from ≤ length header.now) × (length header.now ≤ 60) }
-    ensures { Answers (padding_rule from (drop from header.now)) notes.old result notes.new }
+    ensures { Answers (padding_rule from (drop from header.now)) notes.old notes.new }
 {
     let at = after_nops(header, from);
     notes.steps += at - from;
     if header.len() <= at {
-        return Ok(());
+        return;
     }
     if header[at] == END {
         notes.steps += 1;
-        return Ok(());
+        return;
     }
-    option_rule(header, at, notes)
+    option_rule(header, at, notes);
 }
 
 // The first place from `from` on that has no NOP, or the header's end.
@@ -43,34 +43,37 @@ fn after_nops(header: &[u8], from: usize) -> usize
 
 // Reads one kind, length and body, and passes what is left to the padding rule: E4, E5, E6 in this order.
 #[cycle(option_rule_padding_rule)]
-fn option_rule(header: &[u8], at: usize, notes: &mut Notes) -> Result<(), Refusal>
+fn option_rule(header: &[u8], at: usize, notes: &mut Notes)
     requires { Room notes.old at × (at < length header.now) × (length header.now ≤ 60) }
-    ensures { Answers (option_rule at (drop at header.now)) notes.old result notes.new }
+    ensures { Answers (option_rule at (drop at header.now)) notes.old notes.new }
 {
     notes.steps += 1;
     let place = at as u8;
     if is_broken(&header[at..]) {
-        return Err(Refusal::BrokenOption(place));
+        notes.refusal = Some(Refusal::BrokenOption(place));
+        return;
     }
     let n = header[at + 1] as usize;
     let next = at + n;
     let Ok(kind) = Kind::try_from(header[at]) else {
         // Neither E5 nor E6 is given for an unknown kind.
         notes.skipped += 1;
-        return padding_rule(header, next, notes);
+        padding_rule(header, next, notes);
+        return;
     };
     if is_wrong_length(kind, n) {
-        return Err(Refusal::WrongOptionLength(place));
+        notes.refusal = Some(Refusal::WrongOptionLength(place));
+        return;
     }
-    if notes.place(kind).is_some() {
-        return Err(Refusal::RepeatedOption(place));
+    let before = notes.set_place(kind, place);
+    if before.is_some() {
+        notes.refusal = Some(Refusal::RepeatedOption(place));
+        return;
     }
-    notes.set_place(kind, place);
     // Where the header ends with this option, nothing is left for the padding rule.
-    if header.len() <= next {
-        return Ok(());
+    if next < header.len() {
+        padding_rule(header, next, notes);
     }
-    padding_rule(header, next, notes)
 }
 
 // E4: the option at the start of `left` has no length octet, a length under 2, or one past the end.

@@ -4,7 +4,7 @@ ghost use Rattle.std.specs.Prelude.{◌≡◌, ◌≤◌, [], ◌∷◌, ◌++�
 use serial::{Range, Seq};
 use std::marker::Model;
 
-const MOST: usize = 4;
+pub const MOST: usize = 4;
 
 // What stands in each place that has no block, so that equal lists are equal values.
 const UNUSED: Range = Range {

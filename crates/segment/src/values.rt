@@ -6,6 +6,7 @@ ghost use Rattle.segment.specs.Internal.{Noted, StandAll, StandsIf, place_of};
 
 use super::kinds::Kind;
 use super::notes::Notes;
+use super::sack_blocks::MOST;
 use super::{Options, SackBlocks, Timestamps};
 use octets::{Number, read_u8};
 use serial::{Range, Seq, Stamp};
@@ -50,13 +51,17 @@ fn timestamps(segment: &[u8], place: Option<u8>) -> Option<Timestamps>
 fn sack_blocks(segment: &[u8], place: Option<u8>) -> SackBlocks
     ensures { (f : Found) → place ≡ place_of f → StandsIf segment.now 5 10 f → result ≡ blocks_of f }
 {
-    let mut blocks = SackBlocks::none();
     let Some(place) = place else {
-        return blocks;
+        return SackBlocks::none();
     };
     let at = place as usize;
     let count = (read_u8(segment, at + 1) as usize).saturating_sub(2) / 8;
-    for i in 0..count {
+    let mut blocks = SackBlocks::none();
+    // Up to a constant, so that the compiler makes no loop of it, and drops what is read where only the refusal is asked for.
+    for i in 0..MOST {
+        if count <= i {
+            return blocks;
+        }
         blocks.push(block(segment, at + 2 + 8 * i));
     }
     blocks

@@ -6,7 +6,7 @@ use Prim.Native.Nat.{ℕ, ◌-◌, ◌*◌, ◌≤◌, ◌<◌}
 use native.Mathlib.Omega.{arith}
 use lib.ListN.{drop, length, take}
 use borrow.Author.Tests.{le-ltb, lt-ltb}
-use Rattle.std.specs.Prelude.{Result, Ok, Err}
+use Rattle.std.specs.Prelude.{None, Some, Err}
 use Rattle.segment.specs.Grammar.{Step, padding_rule}
 use Rattle.segment.specs.Options.{options_of, stands_in}
 use Rattle.segment.specs.Reading.{data_offset, fault_place, number_of, read_as, reading, refused, refused_at, reported, segment_of, shown, shown_answer, steps_of, steps_taken}
@@ -68,22 +68,21 @@ module _ (s : List ℕ) (end : ℕ) (at_end : end ≡ 4 * data_offset s) (long :
   passed : Passed s
   passed = record { long = long; short = short; offset_least = omega arith; offset_most = omega arith }
 
-  module _ (answer : Result (Unit {0}) Refusal) (notes : Notes)
-      (answers : Answers (padding_rule 20 (drop 20 (take (end - 0) s))) no_notes answer notes) where
-    outcome : Outcome [] 0 (steps_of s) answer notes
+  module _ (notes : Notes) (answers : Answers (padding_rule 20 (drop 20 (take (end - 0) s))) no_notes notes) where
+    outcome : Outcome [] 0 (steps_of s) notes
     outcome = rw (options_there s end at_end) at (answers [] none_noted)
 
     steps_are : notes.steps ≡ steps_taken s
     steps_are = omega (arith, outcome.counted, ap length (steps_if s passed))
 
-    refuses : (why : Refusal) → answer ≡ Err why → record { answer = shown_answer (Err why); steps = notes.steps } ≡ reported s
+    refuses : (why : Refusal) → notes.refusal ≡ Some why → record { answer = shown_answer (Err why); steps = notes.steps } ≡ reported s
     refuses why e =
         let fault = rw e at outcome.fault_is in
         let range = fault_range [] (steps_of s) _ fault in
         let is = fault_shown why range.0 ∙ sym (refused_if s passed _ fault) in
         λ i. record { answer = is i; steps = steps_are i }
 
-    reads : answer ≡ Ok tt → (options : Options)
+    reads : notes.refusal ≡ None → (options : Options)
         → ((steps : List Step) → Noted steps notes → StandAll s steps → options ≡ options_of steps) → (w : Segment)
         → w ≡ segment_of s end notes.skipped options → record { answer = read_as w; steps = notes.steps } ≡ reported s
     reads e options said w fields =
@@ -93,17 +92,17 @@ module _ (s : List ℕ) (end : ℕ) (at_end : end ≡ 4 * data_offset s) (long :
         let is = ap read_as (fields ∙ (λ i. segment_of s (at_end i) (noted.skipped i) (values i))) ∙ sym (read_if s passed faultless) in
         λ i. record { answer = is i; steps = steps_are i }
 
-pub returns-in-Err : goal.returns-in-Err
-returns-in-Err c =
+pub returns-in-Some : goal.returns-in-Some
+returns-in-Some c =
     let end = c.end-end in
-    let answers = rw c.new-notes.ensures at c.padding_rule-answer.ensures in
+    let answers = rw c.new-notes.ensures at c.padding_rule.ensures in
     refuses c.args.segment.now end.result end.ensures.0 c.if-segment-lt-FIXED_HEADER.false c.if-segment-gt-MAX_SEGMENT.false
-    c.if-end-lt-FIXED_HEADER.false c.if-segment-end.false _ _ answers c.in-Err.why c.in-Err.is
+    c.if-end-lt-FIXED_HEADER.false c.if-segment-end.false _ answers c.in-Some.why c.in-Some.is
 
 pub returns : goal.returns
 returns c =
     let end = c.end-end in
-    let answers = rw c.new-notes.ensures at c.padding_rule-answer.ensures in
+    let answers = rw c.new-notes.ensures at c.padding_rule.ensures in
     let by_options = reads c.args.segment.now end.result end.ensures.0 c.if-segment-lt-FIXED_HEADER.false c.if-segment-gt-MAX_SEGMENT.false
-    c.if-end-lt-FIXED_HEADER.false c.if-segment-end.false _ _ answers c.in_default.is in
+    c.if-end-lt-FIXED_HEADER.false c.if-segment-end.false _ answers c.in_default.is in
     by_options _ c.options-options.ensures _ c.fields.ensures

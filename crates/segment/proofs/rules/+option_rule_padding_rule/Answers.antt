@@ -6,12 +6,11 @@ use mathlib.Core.Path.{◌≡◌, refl, sym, ap, ◌∙◌}
 use Prim.Native.Nat.{ℕ, ◌+◌, ◌-◌, ◌≤◌, ◌<◌}
 use native.Mathlib.Omega.{arith}
 use lib.ListN.{drop, get_or, length}
-use Rattle.std.specs.Prelude.{None, is_some, Result}
+use Rattle.std.specs.Prelude.{None, is_some}
 use Rattle.segment.specs.Grammar.{is_broken, option_rule, padding_rule}
 use Rattle.segment.specs.Options.{is_wrong_length}
 use Rattle.segment.specs.Internal.{Answers, Room}
 use Rattle.segment.specs.Kinds.{kind_number}
-use Rattle.segment.specs.declared.Refusal.{Refusal}
 use Rattle.segment.specs.declared.kinds.Kind.{Kind}
 use Rattle.segment.specs.declared.notes.Notes.{Notes}
 use Rattle.segment.proofs.ByOctet.{octets_least, octets_most, tested}
@@ -32,10 +31,10 @@ module _ (header : List ℕ) (at : ℕ) (unbroken : is_broken (drop at header) �
   -- to it too.
   with_place : (notes noted : Notes) (kind : Kind) → length notes.places ≡ 9 → kind_number kind ≡ get_or header at 0
       → is_wrong_length (kind_number kind) n ≡ false → is_some (get_or notes.places (kind_number kind) None) ≡ false
-      → noted ≡ placed (stepped notes 1) (kind_number kind) at → (answer : Result (Unit {0}) Refusal) (later : Notes)
-      → Answers (padding_rule (at + n) (drop (at + n) header)) noted answer later → Answers (option_rule at (drop at header)) notes answer later
-  with_place notes noted kind size is right none e answer later after before p =
-      at_known before _ header at unbroken (stepped notes 1) (stepped_noted notes before p 1) refl answer later size
+      → noted ≡ placed (stepped notes 1) (kind_number kind) at → (later : Notes)
+      → Answers (padding_rule (at + n) (drop (at + n) header)) noted later → Answers (option_rule at (drop at header)) notes later
+  with_place notes noted kind size is right none e later after before p =
+      at_known before _ header at unbroken (stepped notes 1) (stepped_noted notes before p 1) refl later size
       (rw is at (kind_known kind)) (rw is at right) (rw is at none) (rw (e, is) at after)
 
 pub option_rule-returns-then-is_broken : goal.option_rule-returns-then-is_broken
@@ -59,7 +58,7 @@ pub option_rule-returns-in_default : goal.option_rule-returns-in_default
 option_rule-returns-in_default t c = λ before p.
     let a = c.args in
     let unbroken = tested a.header.now a.at c.is_broken.ensures c.if-is_broken.false in
-    at_skipped before _ a.header.now a.at unbroken (stepped a.notes.now 1) (stepped_noted a.notes.now before p 1) refl _ _
+    at_skipped before _ a.header.now a.at unbroken (stepped a.notes.now 1) (stepped_noted a.notes.now before p 1) refl _
     c.in_default.ensures c.padding_rule.ensures
 
 pub option_rule-returns-then-is_wrong_length : goal.option_rule-returns-then-is_wrong_length
@@ -75,41 +74,41 @@ option_rule-returns-then-is_some t c = λ before p.
     let is = c.in-Ok.ensures in
     let unbroken = tested a.header.now a.at c.is_broken.ensures c.if-is_broken.false in
     let right = rw is at (sym c.is_wrong_length.ensures ∙ c.if-is_wrong_length.false) in
-    let there = rw (c.place.ensures, is) at (sym c.is_some.ensures ∙ c.if-is_some.true) in
-    at_repeated before _ a.header.now a.at (stepped a.notes.now 1) refl unbroken right (rw is at (kind_known c.in-Ok.kind))
-    (stepped_noted a.notes.now before p 1) there
+    let there = rw (c.set_place-before.ensures.before, is) at (sym c.is_some.ensures ∙ c.if-is_some.true) in
+    at_repeated before _ a.header.now a.at c.set_place-before.new.self (ap (λ (noted : Notes). noted.steps) c.set_place-before.ensures.noted) unbroken right
+    (rw is at (kind_known c.in-Ok.kind)) (stepped a.notes.now 1) (stepped_noted a.notes.now before p 1) there
 
-pub option_rule-returns-then-header-next : goal.option_rule-returns-then-header-next
-option_rule-returns-then-header-next t c =
+pub option_rule-returns-else-next-header : goal.option_rule-returns-else-next-header
+option_rule-returns-else-next-header t c =
     let a = c.args in
     let unbroken = tested a.header.now a.at c.is_broken.ensures c.if-is_broken.false in
     let right = sym c.is_wrong_length.ensures ∙ c.if-is_wrong_length.false in
     with_place a.header.now a.at unbroken a.notes.now _ c.in-Ok.kind c.requires.0.kinds c.in-Ok.ensures right
-    (ap is_some (sym c.place.ensures) ∙ sym c.is_some.ensures ∙ c.if-is_some.false) c.set_place.ensures _ _
-    (λ before p. at_past before _ _ _ c.if-header-next.true _ p refl)
+    (ap is_some (sym c.set_place-before.ensures.before) ∙ sym c.is_some.ensures ∙ c.if-is_some.false) c.set_place-before.ensures.noted _
+    (λ before p. at_past before _ _ _ c.if-next-header.false _ p refl)
 
-pub option_rule-padding_rule-requires-2 : goal.option_rule-padding_rule-requires-2
-option_rule-padding_rule-requires-2 t c =
+pub option_rule-padding_rule-requires-then-next-header : goal.option_rule-padding_rule-requires-then-next-header
+option_rule-padding_rule-requires-then-next-header t c =
     let a = c.args in
     let there = fits a.header.now a.at (tested a.header.now a.at c.is_broken.ensures c.if-is_broken.false) in
-    let room : Room c.set_place.new.self (a.at + get_or a.header.now (a.at + 1) 0) =
-    rw c.set_place.ensures (room_placed a.notes.now a.at c.requires.0 _ there.0 (kind_number c.in-Ok.kind) a.at) in
+    let room : Room c.set_place-before.new.self (a.at + get_or a.header.now (a.at + 1) 0) =
+    rw c.set_place-before.ensures.noted (room_placed a.notes.now a.at c.requires.0 _ there.0 (kind_number c.in-Ok.kind) a.at) in
     (omega (arith, there, c.decreases), (room, there.1, c.requires.2))
 
-pub option_rule-returns : goal.option_rule-returns
-option_rule-returns t c =
+pub option_rule-returns-then-next-header : goal.option_rule-returns-then-next-header
+option_rule-returns-then-next-header t c =
     let a = c.args in
     let unbroken = tested a.header.now a.at c.is_broken.ensures c.if-is_broken.false in
     let right = sym c.is_wrong_length.ensures ∙ c.if-is_wrong_length.false in
     with_place a.header.now a.at unbroken a.notes.now _ c.in-Ok.kind c.requires.0.kinds c.in-Ok.ensures right
-    (ap is_some (sym c.place.ensures) ∙ sym c.is_some.ensures ∙ c.if-is_some.false) c.set_place.ensures _ _ c.padding_rule-2.ensures
+    (ap is_some (sym c.set_place-before.ensures.before) ∙ sym c.is_some.ensures ∙ c.if-is_some.false) c.set_place-before.ensures.noted _ c.padding_rule-then-next-header.ensures
 
 pub padding_rule-returns-then-header-at : goal.padding_rule-returns-then-header-at
 padding_rule-returns-then-header-at t c = λ before p.
     let a = c.args in
     let nops = c.after_nops-at in
     let n = nops.result - a.from in
-    nops.ensures.passed before _ _ _
+    nops.ensures.passed before _ _
     (at_past before _ a.header.now nops.result c.if-header-at.true (stepped a.notes.now n) (stepped_noted a.notes.now before p n) refl)
 
 pub padding_rule-returns-then-header-at-eq-END : goal.padding_rule-returns-then-header-at-eq-END
@@ -117,7 +116,7 @@ padding_rule-returns-then-header-at-eq-END t c = λ before p.
     let a = c.args in
     let nops = c.after_nops-at in
     let later = stepped a.notes.now (nops.result - a.from) in
-    nops.ensures.passed before _ _ _
+    nops.ensures.passed before _ _
     (at_end before _ a.header.now nops.result (omega (arith, c.if-header-at.false)) (omega (arith, c.if-header-at-eq-END.true))
     (stepped later 1) (stepped_noted later before (stepped_noted a.notes.now before p (nops.result - a.from)) 1) refl)
 
@@ -126,6 +125,6 @@ padding_rule-returns t c = λ before p.
     let a = c.args in
     let nops = c.after_nops-at in
     let within : nops.result < length a.header.now = omega (arith, c.if-header-at.false) in
-    nops.ensures.passed before _ _ _
-    (at_option before _ a.header.now nops.result within _ _ (λ e. c.if-header-at-eq-END.false (omega (arith, e))) (nops.ensures.no_nop within)
+    nops.ensures.passed before _ _
+    (at_option before _ a.header.now nops.result within _ (λ e. c.if-header-at-eq-END.false (omega (arith, e))) (nops.ensures.no_nop within)
     (c.option_rule.ensures before (stepped_noted a.notes.now before p (nops.result - a.from))))

@@ -11,11 +11,11 @@ use Rattle.segment.proofs.rules.after_nops.Goals as goal
 
 one_passed : (header : List ℕ) (from at : ℕ) → from ≤ at → at < length header → get_or header at 0 ≡ 1 → NopsPassed header from at
     → NopsPassed header from (at + 1)
-one_passed header from at forward within nop passed = λ before k answer notes o.
+one_passed header from at forward within nop passed = λ before k notes o.
     let next = padding_rule (at + 1) (drop (at + 1) header) in
     let same : k + (at + 1 - from) ≡ k + (at - from) + 1 = omega arith in
-    passed before k answer notes
-    (at_nop before (k + (at - from)) header at within answer notes nop (subst (λ (j : ℕ). Outcome before j next answer notes) same o))
+    passed before k notes
+    (at_nop before (k + (at - from)) header at within notes nop (subst (λ (j : ℕ). Outcome before j next notes) same o))
 
 pub loop-at-preserved : goal.loop-at-preserved
 loop-at-preserved c =
