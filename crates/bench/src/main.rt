@@ -16,7 +16,7 @@ use std::io::Read;
 
 fn main(rt: HostRuntime) -> io::Result<()> {
     let mut input = rt.stdin();
-    let mut space = stream::space();
+    let mut space = [0; stream::MOST_OCTETS];
     run(&rt, &mut input, &mut space)
 }
 

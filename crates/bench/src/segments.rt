@@ -10,7 +10,7 @@ use octets::Number;
 use refusals::Numbered;
 use segment::Segment;
 
-// Makes the calls, all of one kind, each on the record that the one before left.
+// Makes the calls, all of one kind of these three, each on the record that the one before left.
 pub fn make(start: Made, calls: &mut [u8], kind: Kind) -> Made {
     let mut made = start;
     let skip = fixed_octets(kind);

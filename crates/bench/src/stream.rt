@@ -1,10 +1,13 @@
 // A recorded stream of calls: how many octets the prepared and the measured ones have, then the calls, one after the other.
-ghost use Rattle.std.specs.Prelude.{◌≡◌, ◌+◌, ◌<◌, ◌≤◌, length, IfOk, IfSome};
+ghost use Rattle.std.specs.Prelude.{◌+◌, ◌<◌, ◌≤◌, length, IfOk, IfSome};
 ghost use Rattle.std.specs.Iterator.{at_most};
 
 use octets::{Number, read_u8};
 use std::io::{ErrorKind, Read};
 use std::{io, mem};
+
+// The most octets that the calls of a stream have.
+pub const MOST_OCTETS: usize = 262_144;
 
 // How many octets the prepared calls have, and the measured ones, which follow them.
 #[derive(Clone, Copy)]
@@ -37,13 +40,6 @@ impl Kind {
             _ => None,
         }
     }
-}
-
-// Room for the most octets that a stream has.
-pub fn space() -> [u8; 262144]
-    ensures { 262144 ≡ length result }
-{
-    [0; 262144]
 }
 
 // Reads a stream, and puts its calls at the start of `space`; nothing where the input is no stream.
