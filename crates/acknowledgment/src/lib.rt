@@ -162,7 +162,7 @@ pub fn write(
     if clock < k.timestamping.since {
         return Err(AckRefusal::ClockBack);
     }
-    let length = writer::write(own_header(k, ports), own_options(k, clock), buffer)?;
+    let length = writer::write(own_header(k, ports), &own_options(k, clock), buffer)?;
     Ok(Acknowledged {
         length,
         connection: record_after(k),

@@ -21,8 +21,8 @@ pub fn make(start: Made, calls: &mut [u8], kind: Kind) -> Made {
             // An arrival does not give the steps.
             (Err(why), _) => made.add(sums::refusal(why, 0)),
             (Ok(s), Kind::Read) => made.add(sums::segment(&s, reading.steps)),
-            (Ok(syn), Kind::Open) => made.connection = open(call, syn),
-            (Ok(s), _) => match made.connection.arrive_read(u64::read(call, 5), s) {
+            (Ok(syn), Kind::Open) => made.connection = open(call, &syn),
+            (Ok(s), _) => match made.connection.arrive_read(u64::read(call, 5), &s) {
                 Ok(arrival) => {
                     made.add(sums::arrival(&arrival));
                     made.connection = arrival.connection;
@@ -44,7 +44,7 @@ fn fixed_octets(kind: Kind) -> usize {
 }
 
 // The record that is opened, a blank one where the opening is refused.
-fn open(call: &[u8], syn: Segment) -> Connection
+fn open(call: &[u8], syn: &Segment) -> Connection
     ensures { Sound result }
 {
     let setup = script::setup(call.get(5..).unwrap_or(&[]));

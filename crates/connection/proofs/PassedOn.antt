@@ -9,7 +9,7 @@ use native.Mathlib.Omega.{arith}
 use lib.Dec.{eqb, ltb}
 use lib.ListN.{get_or}
 use borrow.Author.Tests.{eqb-false, eqb-true}
-use Rattle.std.specs.Prelude.{Ok, Err}
+use Rattle.std.specs.Prelude.{Result, Ok, Err}
 use Rattle.laws.specs.Lists.{any}
 use Rattle.laws.proofs.Choices.{either, neither}
 use Rattle.offers.specs.Offers.{exceed_limits}
@@ -24,7 +24,7 @@ use Rattle.connection.specs.declared.ArriveRefusal.{ArriveRefusal}
 use Rattle.connection.specs.declared.Connection.{Connection}
 use Rattle.connection.specs.declared.OpenRefusal.{OpenRefusal}
 use Rattle.connection.specs.declared.Setup.{Setup}
-use Rattle.connection.specs.Numbers.{Action, Decision, drop_silent, drop_with_ack, refuse, reset, take}
+use Rattle.connection.specs.Numbers.{Action, Decision, arrival_number, drop_silent, drop_with_ack, refuse, reset, take}
 use Rattle.connection.specs.Opening.{OpeningAnswer, exceeds_limits, is_not_syn, is_wrong_ack, opening, opening_from, opening_read, refused_opening, shown_open}
 use Rattle.connection.specs.Verdict.{Row, decided, rows}
 use Rattle.connection.specs.Arriving.{Arrival, arriving, arriving_read, is_take, judged, not_taken, refusing, settled, shown, taken_by}
@@ -232,3 +232,8 @@ judged_holds k a = refl
 pub refusal_holds : (k : Connection) (why : Refusal) → ((shown_open (Err (OpenRefusal.Segment why))).place ≡ fault_place why)
     × ((shown k (Err (ArriveRefusal.Segment why))).place ≡ fault_place why)
 refusal_holds k why = (refl, refl)
+
+-- the number of an answer is that of its decision, whatever record was passed
+pub number_decided : (k : Connection) (answer : Result declared.Arrival ArriveRefusal) → arrival_number answer ≡ (shown k answer).decision.number
+number_decided k (Ok arrival) = refl
+number_decided k (Err why) = refl

@@ -1,7 +1,8 @@
 -- Document 01's number, of 17 and 31 document 02's, what is done, and what is passed on of reading the options, for each case of the enums.
 use Rattle.std.proofs.Math.Option.{Option, none}
-use Rattle.std.specs.Prelude.{ℕ}
+use Rattle.std.specs.Prelude.{ℕ, Result, Ok, Err}
 use Rattle.segment.specs.Reading.{fault_place, number_of}
+use Rattle.connection.specs.declared.Arrival.{Arrival}
 use Rattle.connection.specs.declared.ArriveRefusal.{ArriveRefusal}
 use Rattle.connection.specs.declared.OpenRefusal.{OpenRefusal}
 use Rattle.connection.specs.declared.ProfileRefusal.{ProfileRefusal}
@@ -55,6 +56,11 @@ verdict_of (Verdict.WithAck why) = record { number = reason_number why; action =
 abbrev pub arrive_refusal_number : ArriveRefusal → ℕ
 arrive_refusal_number (ArriveRefusal.Segment why) = number_of why
 arrive_refusal_number ArriveRefusal.ClockBack = 8
+
+-- of an answer: the verdict's number, or the refusal's
+abbrev pub arrival_number : Result Arrival ArriveRefusal → ℕ
+arrival_number (Ok arrival) = (verdict_of arrival.verdict).number
+arrival_number (Err why) = arrive_refusal_number why
 
 abbrev pub arrive_refusal_place : ArriveRefusal → Option ℕ
 arrive_refusal_place (ArriveRefusal.Segment why) = fault_place why

@@ -14,7 +14,7 @@ ghost use Rattle.std.proofs.Math.Option.{none, some};
 ghost use Rattle.connection.specs.declared.ArriveRefusal.{ArriveRefusal};
 ghost use Rattle.connection.specs.declared.OpenRefusal.{OpenRefusal};
 ghost use Rattle.connection.specs.declared.ProfileRefusal.{ProfileRefusal};
-ghost use Rattle.connection.specs.Numbers.{arrive_refusal_number, open_refusal_number, profile_refusal_number, reason_number, verdict_of};
+ghost use Rattle.connection.specs.Numbers.{arrival_number, arrive_refusal_number, open_refusal_number, profile_refusal_number, reason_number, verdict_of};
 ghost use Rattle.connection.specs.Record.{Sound, blank};
 ghost use Rattle.connection.specs.Opening.{opening, opening_read, shown_open};
 ghost use Rattle.connection.specs.Profile.{profile_opening, profile_opening_read, shown_profile};
@@ -242,6 +242,16 @@ impl Verdict {
     }
 }
 
+// The number of an arrival's answer: its verdict's, or its refusal's.
+pub fn arrival_number(answer: &Result<Arrival, ArriveRefusal>) -> u8
+    ensures { result ≡ arrival_number answer.now }
+{
+    match answer {
+        Ok(arrival) => arrival.verdict.number(),
+        Err(why) => why.number(),
+    }
+}
+
 impl Connection {
     // Opens a record from the peer's SYN segment: E9, reading, E10, E11.
     #[tactic(auto, using(crate::proofs::Exits::read_shown, crate::proofs::Exits::unread_opening, crate::proofs::Exits::read_opening), unfolding(crate::specs::Opening::opening))]
@@ -256,12 +266,12 @@ impl Connection {
 
     // The same from a SYN segment that has been read: E9, E10, E11.
     #[tactic(auto, unfolding(crate::specs::Opening::opening_read))]
-    pub fn open_read(own: Setup, clock: u64, syn: Segment) -> Result<Opened, OpenRefusal>
-        ensures answer { shown_open result ≡ opening_read own clock syn }
+    pub fn open_read(own: Setup, clock: u64, syn: &Segment) -> Result<Opened, OpenRefusal>
+        ensures answer { shown_open result ≡ opening_read own clock syn.now }
         ensures sound { IfOk result (λ opened. Sound opened.connection) }
     {
         opening::within_limits(own)?;
-        opening::open_from(own, clock, &syn)
+        opening::open_from(own, clock, syn)
     }
 
     // Opens a record under the field-station profile: E9, reading, E10, E11, E17.
@@ -280,16 +290,16 @@ impl Connection {
     pub fn open_read_under_profile(
         own: Setup,
         clock: u64,
-        syn: Segment,
+        syn: &Segment,
     ) -> Result<Opened, ProfileRefusal>
-        ensures answer { shown_profile result ≡ profile_opening_read own clock syn }
+        ensures answer { shown_profile result ≡ profile_opening_read own clock syn.now }
         ensures sound { IfOk result (λ opened. Sound opened.connection) }
     {
         opening::within_limits(own)?;
-        profile::open_from(own, clock, &syn)
+        profile::open_from(own, clock, syn)
     }
 
-    // The record that stands beside a refused opening.
+    // The record that the definitions have beside a refused opening, and one to begin with where none was opened.
     #[tactic(auto, using(crate::proofs::Keeping::blank_sound), unfolding(crate::specs::Record::blank))]
     pub fn blank() -> Connection
         ensures blank { result ≡ blank }
@@ -327,22 +337,22 @@ impl Connection {
         ensures sound { IfOk result (λ arrival. Sound arrival.connection) }
     {
         let s = segment::read(segment).outcome?;
-        self.arrive_read(clock, s)
+        self.arrive_read(clock, &s)
     }
 
     // The same for a segment that has been read, as by a caller who finds the connection by its ports: E8, then the verdict.
     #[tactic(auto, unfolding(crate::specs::Arriving::arriving_read, crate::specs::Arriving::judged, crate::specs::Arriving::settled))]
-    pub fn arrive_read(self, clock: u64, s: Segment) -> Result<Arrival, ArriveRefusal>
+    pub fn arrive_read(self, clock: u64, s: &Segment) -> Result<Arrival, ArriveRefusal>
         requires { Sound self }
-        ensures answer { shown self result ≡ arriving_read self clock s }
+        ensures answer { shown self result ≡ arriving_read self clock s.now }
         ensures sound { IfOk result (λ arrival. Sound arrival.connection) }
     {
         if clock < self.timestamping.since {
             return Err(ArriveRefusal::ClockBack);
         }
-        let verdict = self.judge(clock, &s);
+        let verdict = self.judge(clock, s);
         if verdict.is_take() {
-            return Ok(self.take(clock, &s));
+            return Ok(self.take(clock, s));
         }
         Ok(self.unchanged(verdict, s.skipped))
     }

@@ -30,7 +30,7 @@ pub struct Timer {
 }
 
 // A round-trip sample is refused: E14.
-#[derive(Clone, Copy)]
+#[derive(Clone, Copy, PartialEq, Eq)]
 pub struct SampleRefused;
 
 impl Numbered for SampleRefused {

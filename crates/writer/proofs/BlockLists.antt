@@ -4,7 +4,6 @@ use mathlib.Core.Path.{◌≡◌, refl, sym, ap, ◌∙◌}
 use Prim.Native.Nat.{ℕ, suc, ◌+◌, ◌-◌, ◌/◌, ◌≤◌}
 use native.Mathlib.Omega.{arith}
 use lib.ListN.{length, length-append, take}
-use lib.Seq.{take_all}
 use Rattle.serial.specs.declared.Range.{Range}
 use Rattle.octets.specs.Octets.{big_endian, number_at}
 use Rattle.octets.proofs.ReadBack.{number_at_big_endian, number_at_within}
@@ -32,10 +31,10 @@ blocks_from_back front (b ∷ bs) =
     λ i. record { left = record { 0 = first i }; right = record { 0 = second i } } ∷ later i
 
 -- the blocks of a SACK option
-pub sack_back : (b : Range) (bs : List Range) (n : ℕ) → length bs ≤ 3 → blocks_in (5 ∷ n ∷ blocks_written (b ∷ bs)) ≡ b ∷ bs
+pub sack_back : (b : Range) (bs : List Range) (n : ℕ) → blocks_in (5 ∷ n ∷ blocks_written (b ∷ bs)) ≡ take 4 (b ∷ bs)
 unfolding blocks_from
-sack_back b bs n few =
+sack_back b bs n =
     let octets : List ℕ = 5 ∷ n ∷ blocks_written (b ∷ bs) in
     let more : (length octets - 10) / 8 ≡ length bs = omega (arith, length_blocks (b ∷ bs)) in
     ap (λ (k : ℕ). take 4 (blocks_from (suc k) octets 2)) more
-    ∙ ap (take 4) (blocks_from_back (5 ∷ n ∷ []) (b ∷ bs)) ∙ take_all 4 (b ∷ bs) (omega arith)
+    ∙ ap (take 4) (blocks_from_back (5 ∷ n ∷ []) (b ∷ bs))

@@ -2,9 +2,10 @@
 -- Assumes nothing.
 use mathlib.Core.Bool.{Bool, true, false}
 use mathlib.Core.List.{List, [], ◌∷◌, ◌++◌}
-use mathlib.Core.Path.{◌≡◌, refl, sym, subst}
+use mathlib.Core.Path.{◌≡◌, refl, sym, subst, ◌∙◌}
 use Prim.Native.Nat.{ℕ, zero, suc, ◌+◌, ◌*◌, ◌≤◌}
 use native.Mathlib.Omega.{arith}
+use lib.Seq.{take_all}
 use lib.ListN.{length}
 use Rattle.serial.specs.declared.Range.{Range}
 use Rattle.octets.specs.Octets.{big_endian, number_at}
@@ -108,4 +109,4 @@ module _ {o : Options} {rest : List ℕ} {o' : Options} where
       let n : ℕ = 8 * length (b ∷ bs) + 2 in
       option_read 5 n (blocks_written (b ∷ bs)) (omega arith) refl (omega (arith, length_blocks (b ∷ bs))) (sack_length (length bs) few)
       (λ before said. sack_new before (rw said new))
-      (subst (λ (x : List Range). Reads (with_blocks o x) rest o') (sym (sack_back b bs n few)) then)
+      (subst (λ (x : List Range). Reads (with_blocks o x) rest o') (sym (sack_back b bs n ∙ take_all 4 (b ∷ bs) (omega arith))) then)

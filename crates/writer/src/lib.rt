@@ -52,15 +52,15 @@ impl Numbered for BufferTooShort {
 // Writes header and options of a segment without payload at the start of the buffer, leaves the octets after them, and answers how many
 // octets they are. Of the SACK blocks as many are written as fit. A buffer that is too short stays as it is.
 #[tactic(auto, using(crate::proofs::Answers::refuses_if, crate::proofs::Answers::writes_if, crate::proofs::Lengths::length_written, crate::proofs::Storing::whole_stored))]
-pub fn write(header: Header, options: Options, buffer: &mut [u8]) -> Result<usize, BufferTooShort>
-    ensures { shown_writing result buffer.new ≡ writing header options buffer.old }
+pub fn write(header: Header, options: &Options, buffer: &mut [u8]) -> Result<usize, BufferTooShort>
+    ensures { shown_writing result buffer.new ≡ writing header options.now buffer.old }
 {
-    let blocks = sizes::fitting(&options);
-    let size = sizes::size(&options, blocks.as_slice());
+    let blocks = sizes::fitting(options);
+    let size = sizes::size(options, blocks.as_slice());
     if buffer.len() < size {
         return Err(BufferTooShort);
     }
     fixed_header::write_header(buffer, header, (size / 4) as u8);
-    option_list::write_options(buffer, &options, blocks.as_slice());
+    option_list::write_options(buffer, options, blocks.as_slice());
     Ok(size)
 }
