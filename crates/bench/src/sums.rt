@@ -37,16 +37,8 @@ pub fn record(k: &Connection) -> u64 {
 
 // Of a segment that cannot be read, and the steps of its options.
 pub fn refusal(why: Refusal, steps: usize) -> u64 {
-    total(&[u64::from(why.number()), place(why), steps as u64])
-}
-
-fn place(why: Refusal) -> u64 {
-    match why {
-        Refusal::TooShort | Refusal::TooLong | Refusal::BadDataOffset => 0,
-        Refusal::BrokenOption(place)
-        | Refusal::WrongOptionLength(place)
-        | Refusal::RepeatedOption(place) => u64::from(place),
-    }
+    let place = why.place().map_or(0, u64::from);
+    total(&[u64::from(why.number()), place, steps as u64])
 }
 
 // Of a segment that can be read, and the steps of its options.

@@ -1,5 +1,4 @@
 // Calls without a state: reading a segment, finding an option, the distance, and the functions for C.
-use crate::place_or_count;
 use crate::text::{Hex, OrDash, SegmentFields};
 use octets::Number;
 use refusals::Numbered;
@@ -11,11 +10,7 @@ pub fn read(rt: &impl Print, segment: &[u8]) -> io::Result<()> {
     let steps = reading.steps;
     match reading.outcome {
         Ok(s) => println!(rt; "read 0 {} {} {steps}", SegmentFields(s), s.skipped),
-        Err(why) => println!(rt;
-            "read {} {} {steps}",
-            why.number(),
-            OrDash(place_or_count::of_refusal(why))
-        ),
+        Err(why) => println!(rt; "read {} {} {steps}", why.number(), OrDash(why.place())),
     }
 }
 

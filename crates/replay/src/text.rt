@@ -1,7 +1,7 @@
 // How the fields of a line are printed: in decimal, one space apart. They are parts of one print, since each print is a call of the system.
 use connection::Connection;
 use rto::Timer;
-use segment::{Flags, Segment};
+use segment::Segment;
 use serial::Range;
 use std::fmt;
 
@@ -57,7 +57,13 @@ impl fmt::Display for SegmentFields {
         let s = self.0;
         let options = s.options;
         write!(f, "{} {} {} {}", s.source, s.destination, s.seq.0, s.ack.0)?;
-        write!(f, " {} {} {}", flags_octet(s.flags), s.window, s.urgent)?;
+        write!(
+            f,
+            " {} {} {}",
+            writer::flags_octet(s.flags),
+            s.window,
+            s.urgent
+        )?;
         write!(f, " {} {}", OrDash(options.mss), OrDash(options.scale))?;
         write!(f, " {}", u8::from(options.permitted))?;
         write!(f, " {}", OrDash(options.timestamps.map(|t| t.value.0)))?;
@@ -65,15 +71,6 @@ impl fmt::Display for SegmentFields {
         write!(f, " {}", Ranges(options.blocks.as_slice()))?;
         write!(f, " {} {}", s.payload.start, s.payload.length)
     }
-}
-
-// The flags as octet 13 has them.
-fn flags_octet(f: Flags) -> u8 {
-    let mut octet = 0;
-    for flag in [f.cwr, f.ece, f.urg, f.ack, f.psh, f.rst, f.syn, f.fin] {
-        octet = octet << 1 | u8::from(flag);
-    }
-    octet
 }
 
 // The line of a record.

@@ -10,9 +10,10 @@ mod rules;
 mod sack_blocks;
 mod values;
 
-ghost use Rattle.std.specs.Prelude.{◌≡◌, Err};
+ghost use Rattle.std.specs.Prelude.{◌≡◌, Err, MatchOption};
+ghost use Rattle.std.proofs.Math.Option.{none, some};
 ghost use Rattle.segment.specs.Part.{IsPart};
-ghost use Rattle.segment.specs.Reading.{found_option, number_of, number_positive, reported, shown};
+ghost use Rattle.segment.specs.Reading.{fault_place, found_option, number_of, number_positive, reported, shown};
 
 use notes::Notes;
 use refusals::Numbered;
@@ -112,6 +113,20 @@ impl Numbered for Refusal {
     }
 
     ghost positive = { number_positive };
+}
+
+impl Refusal {
+    // The place in the segment of the kind octet at fault, where an option is.
+    pub fn place(self) -> Option<u8>
+        ensures { MatchOption result (fault_place self ≡ none) (λ place. fault_place self ≡ some place) }
+    {
+        match self {
+            Refusal::TooShort | Refusal::TooLong | Refusal::BadDataOffset => None,
+            Refusal::BrokenOption(place)
+            | Refusal::WrongOptionLength(place)
+            | Refusal::RepeatedOption(place) => Some(place),
+        }
+    }
 }
 
 // What reading a segment answers.

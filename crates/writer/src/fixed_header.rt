@@ -7,7 +7,8 @@ use super::Header;
 use octets::{Number, write_u8};
 use segment::Flags;
 
-fn flags_octet(flags: Flags) -> u8
+// Octet 13.
+pub fn flags_octet(flags: Flags) -> u8
     ensures { result ≡ flags_written flags }
 {
     u8::from(flags.cwr) * 128

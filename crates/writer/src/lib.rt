@@ -11,6 +11,7 @@ ghost use Rattle.std.specs.Prelude.{◌≡◌};
 ghost use Rattle.std.proofs.Common.{rules};
 ghost use Rattle.writer.specs.Writing.{refusal_number, shown_writing, writing};
 
+pub use fixed_header::flags_octet;
 use refusals::Numbered;
 use segment::{Flags, Options};
 use serial::Seq;
