@@ -117,7 +117,9 @@ fn own_blocks(k: Connection) -> SackBlocks
         return SackBlocks::none();
     }
     let most = if k.timestamping.active { 3 } else { 4 };
-    first_ranges(k.receive.held.as_slice(), most)
+    // A copy is gone through, so that the compiler can keep the record in registers.
+    let held = k.receive.held;
+    first_ranges(held.as_slice(), most)
 }
 
 #[tactic(auto, unfolding(crate::specs::Acknowledgment::own_options))]

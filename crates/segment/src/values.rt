@@ -67,7 +67,7 @@ fn sack_blocks(segment: &[u8], place: Option<u8>) -> SackBlocks
     blocks
 }
 
-// The block at a place, which is the highest where an option at place 255 has the longest length, 255.
+// The block at a place, which lies far below 512: an option starts at 255 at most, the highest place that a u8 holds.
 fn block(segment: &[u8], at: usize) -> Range
     requires { at ≤ 512 }
     ensures { result ≡ block_at segment.now at }
