@@ -81,7 +81,8 @@ impl Receive {
         }
     }
 
-    // Whether a segment passes the window test. Document 01 judges a segment by SEQ and LEN; callers have them as two fields of a segment.
+    // Whether a segment passes the window test. Document 01 judges a segment by SEQ and LEN, which each caller has as fields of a segment:
+    // so they stay two parameters, here and below.
     #[tactic(auto, unfolding(crate::specs::Window::acceptable))]
     pub fn is_acceptable(self, seq: Seq, len: u32) -> bool
         ensures { result ≡ acceptable self seq.0 len }

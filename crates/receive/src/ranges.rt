@@ -105,7 +105,10 @@ impl Receive {
     pub(crate) fn meets_any(&self, part: Part) -> bool
         ensures { result ≡ list_any (meets self.now.nxt.0 part) (ranges_of self.now.held) }
     {
-        self.held.as_slice().iter().any(|range| self.meets(part, *range))
+        self.held
+            .as_slice()
+            .iter()
+            .any(|range| self.meets(part, *range))
     }
 
     // The part joined with the ranges that it meets, gone through from the oldest on, as `joined` is defined.
