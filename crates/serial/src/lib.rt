@@ -6,6 +6,9 @@
 ghost use Rattle.std.specs.Prelude.{◌≡◌, ℕ};
 ghost use Rattle.serial.specs.Serial.{IsDistance, distance_of, is_at_or_before, is_before, moved_by, offset_of, round_trip, stamp_at};
 
+// The top bit of a u32.
+const TOP_BIT: u32 = 0x8000_0000;
+
 // What both kinds are: a number of 32 bits that wraps. Neither can be handed where the other is asked.
 pub trait Serial: Copy {
     ghost number: { Self → ℕ };
@@ -96,9 +99,16 @@ impl Stamp {
     }
 }
 
-// The distance from `a` to `b`: the offset of `b` from `a`, modulo 2^32, of which the top bit counts as -2^31.
+// The distance from `a` to `b`: the offset of `b` from `a`, modulo 2^32, of which the top bit counts as -2^31. Document 02 asks for one wrapping
+// subtraction and a test of the top bit, and not for a cast of both at once.
 fn difference(a: u32, b: u32) -> i32
     ensures { IsDistance a b result }
 {
-    b.wrapping_sub(a).cast_signed()
+    let offset = b.wrapping_sub(a);
+    let low = (offset & !TOP_BIT) as i32;
+    if offset & TOP_BIT == 0 {
+        low
+    } else {
+        i32::MIN + low
+    }
 }
