@@ -122,6 +122,7 @@ pub enum ArriveRefusal {
 }
 
 // The answer to an arriving segment. Only a take has a new part, a FIN in it, listed SACK blocks and a changed connection.
+// They stand beside the verdict, whose form document 01 gives.
 #[derive(Clone, Copy)]
 pub struct Arrival {
     pub verdict: Verdict,
@@ -416,7 +417,7 @@ impl Connection {
         Arrival {
             verdict,
             skipped,
-            part: Part { from: 0, to: 0 },
+            part: Part::empty(),
             fin: false,
             blocks: SackBlocks::none(),
             connection: self,

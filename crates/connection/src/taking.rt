@@ -9,7 +9,7 @@ use super::Connection;
 use rto::Timer;
 use segment::Segment;
 use send::AckFields;
-use serial::{Serial, Stamp};
+use serial::Stamp;
 
 // An MSS below this counts as this where samples are expected.
 const MIN_MSS: u16 = 64;
@@ -53,7 +53,7 @@ impl Connection {
         let Some(pair) = s.options.timestamps else {
             return self.timer;
         };
-        let outstanding = self.send.nxt.offset(self.send.una);
+        let outstanding = self.send.outstanding();
         let rtt = self.timestamping.sample(clock, pair.echoed);
         let expected = expected_samples(outstanding, self.mss);
         self.timer.feed(rtt, expected)

@@ -35,6 +35,8 @@ pub trait Number {
         ensures { octets.new ≡ sets octets.old at (big_endian width (value self)) };
 }
 
+// Three impls that read alike: `from_be_bytes` and `to_be_bytes` are each type's own, and no default body can name the width of `Self`.
+
 impl Number for u16 {
     ghost width = { 2 };
 

@@ -81,7 +81,8 @@ impl Receive {
         }
     }
 
-    // Whether a segment passes the window test.
+    // Whether a segment passes the window test. Document 01 judges a segment by SEQ and LEN, which each caller has as fields of a segment:
+    // so they stay two parameters, here and below.
     #[tactic(auto, unfolding(crate::specs::Window::acceptable))]
     pub fn is_acceptable(self, seq: Seq, len: u32) -> bool
         ensures { result ≡ acceptable self seq.0 len }
@@ -94,7 +95,7 @@ impl Receive {
         }
     }
 
-    // The part of a segment that is new and in the window; where there is none, the empty part at 0.
+    // The part of a segment that is new and in the window; where there is none, the empty part at 0, as document 01 has it.
     #[tactic(auto, unfolding(crate::specs::Window::new_part))]
     pub fn new_part(self, seq: Seq, len: u32) -> Part
         ensures { result ≡ new_part self seq.0 len }
@@ -129,7 +130,7 @@ impl Receive {
             return false;
         }
         let part = self.new_part(seq, len);
-        part.is_out_of_order() && !self.held.meets_any(self.nxt, part)
+        part.is_out_of_order() && !self.meets_any(part)
     }
 
     // The receive side after the new part of a segment is taken.
@@ -227,9 +228,9 @@ impl Receive {
         if self.held.count == 0 {
             return self.moved_on(part.to);
         }
-        let next = self.moved_on(self.held.joined(self.nxt, part).to);
+        let next = self.moved_on(self.joined(part).to);
         Receive {
-            held: self.held.unmet(self.nxt, part),
+            held: self.unmet(part),
             ..next
         }
     }
@@ -241,8 +242,8 @@ impl Receive {
         requires out_of_order { IsTrue (is_out_of_order part) }
         ensures { result ≡ holding self part }
     {
-        let range = self.held.joined(self.nxt, part).range(self.nxt);
-        let others = self.held.unmet(self.nxt, part);
+        let range = self.joined(part).range(self.nxt);
+        let others = self.unmet(part);
         Receive {
             held: others.with_first(range),
             ..self

@@ -6,11 +6,12 @@ ghost use Rattle.receive.specs.Sound.{Canonical};
 ghost use Rattle.receive.specs.Internal.{with_first};
 ghost use Rattle.receive.specs.Window.{empty_part};
 
-use super::{Held, Part, SLOTS};
+use super::{Held, Part, Receive, SLOTS};
 use serial::{Range, Seq, Serial};
 
 impl Part {
-    pub(crate) fn empty() -> Part
+    // Document 01's empty part.
+    pub fn empty() -> Part
         ensures { result ≡ empty_part }
     {
         Part { from: 0, to: 0 }
@@ -40,14 +41,6 @@ impl Part {
             right: nxt.moved(self.to),
         }
     }
-
-    // Whether the range overlaps or touches the part.
-    #[tactic(auto, unfolding(crate::specs::Ranges::meets, crate::specs::Ranges::left_of, crate::specs::Ranges::right_of))]
-    fn meets(self, nxt: Seq, range: Range) -> bool
-        ensures { result ≡ meets nxt.0 self range }
-    {
-        range.left.offset(nxt) <= self.to && self.from <= range.right.offset(nxt)
-    }
 }
 
 impl Held {
@@ -74,13 +67,6 @@ impl Held {
         &self.ranges[..self.count.min(SLOTS)]
     }
 
-    // Whether the part overlaps or touches a range.
-    pub(crate) fn meets_any(&self, nxt: Seq, part: Part) -> bool
-        ensures { result ≡ list_any (meets nxt.0 part) (ranges_of self.now) }
-    {
-        self.as_slice().iter().any(|range| part.meets(nxt, *range))
-    }
-
     // The ranges with one more put first; where no slot is left, as they were.
     #[tactic(auto, using(crate::proofs::Slots::put_full, crate::proofs::Slots::put_room))]
     pub(crate) fn with_first(mut self, range: Range) -> Held
@@ -104,28 +90,48 @@ impl Held {
         self.ranges[self.count] = range;
         self.count += 1;
     }
+}
 
-    // The part joined with the ranges that it meets.
-    pub(crate) fn joined(&self, nxt: Seq, part: Part) -> Part
-        ensures { result ≡ joined nxt.0 part (ranges_of self.now) }
+impl Receive {
+    // Whether the part overlaps or touches the range.
+    #[tactic(auto, unfolding(crate::specs::Ranges::meets, crate::specs::Ranges::left_of, crate::specs::Ranges::right_of))]
+    fn meets(&self, part: Part, range: Range) -> bool
+        ensures { result ≡ meets self.now.nxt.0 part range }
+    {
+        range.left.offset(self.nxt) <= part.to && part.from <= range.right.offset(self.nxt)
+    }
+
+    // Whether it overlaps or touches any that is held.
+    pub(crate) fn meets_any(&self, part: Part) -> bool
+        ensures { result ≡ list_any (meets self.now.nxt.0 part) (ranges_of self.now.held) }
+    {
+        self.held
+            .as_slice()
+            .iter()
+            .any(|range| self.meets(part, *range))
+    }
+
+    // The part joined with the ranges that it meets, gone through from the oldest on, as `joined` is defined.
+    pub(crate) fn joined(&self, part: Part) -> Part
+        ensures { result ≡ joined self.now.nxt.0 part (ranges_of self.now.held) }
     {
         let mut joined = part;
-        for range in self.as_slice().iter().rev() {
-            if part.meets(nxt, *range) {
-                joined.from = range.left.offset(nxt).min(joined.from);
-                joined.to = range.right.offset(nxt).max(joined.to);
+        for range in self.held.as_slice().iter().rev() {
+            if self.meets(part, *range) {
+                joined.from = range.left.offset(self.nxt).min(joined.from);
+                joined.to = range.right.offset(self.nxt).max(joined.to);
             }
         }
         joined
     }
 
     // The ranges that the part does not meet, in their order.
-    pub(crate) fn unmet(&self, nxt: Seq, part: Part) -> Held
-        ensures { result ≡ held_of (unmet nxt.0 part (ranges_of self.now)) }
+    pub(crate) fn unmet(&self, part: Part) -> Held
+        ensures { result ≡ held_of (unmet self.now.nxt.0 part (ranges_of self.now.held)) }
     {
         let mut rest = Held::none();
-        for range in self.as_slice() {
-            if !part.meets(nxt, *range) {
+        for range in self.held.as_slice() {
+            if !self.meets(part, *range) {
                 rest.push(*range);
             }
         }

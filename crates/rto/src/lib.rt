@@ -104,7 +104,7 @@ impl Timer {
     }
 }
 
-// The milliseconds of a timer with this S and V; 0 where S or V is more than samples can make it.
+// The milliseconds of a timer with this S and V; 0, as C is told it, where S or V is more than samples can make it.
 pub fn milliseconds(srtt: u64, rttvar: u64) -> u32
     ensures { result ≡ milliseconds_of srtt rttvar }
 {

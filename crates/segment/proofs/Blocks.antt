@@ -45,10 +45,10 @@ module _ (a : Inside) (h : Padded a) where
       λ i. record { blocks = blocks i; count = longer i }
 
 -- the first n of a list with one more, by the first n of the list
-pub take_more : {A : Type 0} (n : ℕ) (l rest : List A) → take n (take n l ++ rest) ≡ take n (l ++ rest)
-take_more zero l rest = refl
-take_more (suc n) [] rest = refl
-take_more (suc n) (x ∷ l) rest = ap (λ r. x ∷ r) (take_more n l rest)
+pub take_again : {A : Type 0} (n : ℕ) (l rest : List A) → take n (take n l ++ rest) ≡ take n (l ++ rest)
+take_again zero l rest = refl
+take_again (suc n) [] rest = refl
+take_again (suc n) (x ∷ l) rest = ap (λ r. x ∷ r) (take_again n l rest)
 
 -- n blocks and one more
 pub one_more_block : (n : ℕ) (octets : List ℕ) (at : ℕ) → blocks_from (suc n) octets at ≡ blocks_from n octets at ++ (block_at octets (at + 8 * n) ∷ [])

@@ -1,7 +1,7 @@
 -- The rules by the octets of the header that the code tests. Assumes nothing.
 use mathlib.Core.Bool.{Bool, true, false, cond}
 use mathlib.Core.List.{List, [], ◌∷◌}
-use mathlib.Core.Path.{◌≡◌, sym, ap, ◌∙◌}
+use mathlib.Core.Path.{◌≡◌, refl, sym, ap, ◌∙◌}
 use Prim.Native.Nat.{ℕ, zero, suc, ◌+◌, ◌-◌, ◌*◌, ◌≤◌, ◌<◌}
 use native.Mathlib.Nat.{add-zero, sub-zero, suc-add, zero-add}
 use native.Mathlib.Numerals.{add-one}
@@ -10,6 +10,8 @@ use lib.Dec.{eqb}
 use lib.ListN.{drop, drop_of_length-le, get_or, length, length-drop, take}
 use lib.Seq.{drop-cons, drop-nil, get_or-drop, get_or-take, length-take-le, take_all}
 use borrow.Author.Tests.{eq-eqb, ne_eqb}
+use Rattle.std.specs.Prelude.{Option, Some, None}
+use Rattle.std.proofs.lemmas.Option.{none-some, same_Some}
 use Rattle.segment.specs.Grammar.{broken, end, is_broken, length_least, length_most, nop, option_rule_lem, option_rule, padding_none, padding_rule_lem, padding_rule, whole}
 use Rattle.segment.specs.Reading.{data_offset, option_octets}
 
@@ -17,10 +19,33 @@ use Rattle.segment.specs.Reading.{data_offset, option_octets}
 to_the_end : (n : ℕ) (l : List ℕ) → take (length l - n) (drop n l) ≡ drop n l
 to_the_end n l = take_all (length l - n) (drop n l) (simp length-drop (omega arith))
 
--- what a test of the octets left, `is_broken(&header[at..])`, says
-pub tested : (header : List ℕ) (at : ℕ) {answer t : Bool} → answer ≡ is_broken (take (length header - at) (drop at header)) → answer ≡ t
-    → is_broken (drop at header) ≡ t
-tested header at e is = sym (rw (to_the_end at header) at e) ∙ is
+-- the length of a whole option, and none of a broken one
+abbrev pub length_if : Bool → ℕ → Option ℕ
+length_if cut n = cond cut None (Some n)
+
+broken_if : (cut : Bool) (n : ℕ) → length_if cut n ≡ None → cut ≡ true
+broken_if true n e = refl
+broken_if false n e = absurd (none-some n (sym e))
+
+whole_if : (cut : Bool) (n m : ℕ) → length_if cut n ≡ Some m → (cut ≡ false) × (m ≡ n)
+whole_if true n m e = absurd (none-some m e)
+whole_if false n m e = (refl, same_Some m n (sym e))
+
+-- what is read of the octets left, `whole_option(&header[at..])`, says
+module _ (header : List ℕ) (at : ℕ) where
+  abbrev pub left : List ℕ
+  left = take (length header - at) (drop at header)
+
+  pub read_there : length_if (is_broken left) (get_or left 1 0) ≡ length_if (is_broken (drop at header)) (get_or header (at + 1) 0)
+  read_there = (λ i. let l = to_the_end at header i in length_if (is_broken l) (get_or l 1 0))
+      ∙ ap (length_if (is_broken (drop at header))) (get_or-drop at header 1 0)
+
+  pub broken_there : {answer : Option ℕ} → answer ≡ length_if (is_broken left) (get_or left 1 0) → answer ≡ None → is_broken (drop at header) ≡ true
+  broken_there e is = broken_if _ _ (sym (e ∙ read_there) ∙ is)
+
+  pub whole_there : {answer : Option ℕ} {n : ℕ} → answer ≡ length_if (is_broken left) (get_or left 1 0) → answer ≡ Some n
+      → (is_broken (drop at header) ≡ false) × (n ≡ get_or header (at + 1) 0)
+  whole_there e is = whole_if _ _ _ (sym (e ∙ read_there) ∙ is)
 
 pub drop_further : (m n : ℕ) (l : List ℕ) → drop n (drop m l) ≡ drop (m + n) l
 drop_further zero n l = ap (λ (k : ℕ). drop k l) (sym (zero-add n))

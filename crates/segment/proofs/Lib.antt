@@ -1,4 +1,4 @@
-mod Blocks
+pub mod Blocks
 pub mod Bounds
 mod ByOctet
 pub mod Faults

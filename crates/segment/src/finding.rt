@@ -8,12 +8,13 @@ ghost use Rattle.segment.specs.Reading.{matching};
 
 use super::FIXED_HEADER;
 use super::kinds::{END, NOP};
-use super::rules::is_broken;
+use super::rules::whole_option;
 
 // The first option of a header whose kind stands in `kinds`, or an empty part.
 pub fn first_listed<'a>(header: &'a [u8], kinds: &[u8]) -> &'a [u8]
     ensures { IsPart result header.entry.ref_ptr (option_in (matching kinds.now) (padding_rule 20 (drop 20 header.now))) }
 {
+    // By a place, since what is found is that part of the header.
     let mut at = FIXED_HEADER;
     while let Some(n) = step_octets(header, at) {
         if is_listed(kinds, header[at]) {
@@ -34,10 +35,7 @@ fn step_octets(header: &[u8], at: usize) -> Option<usize>
     if header[at] == NOP {
         return Some(1);
     }
-    if is_broken(&header[at..]) {
-        return None;
-    }
-    Some(header[at + 1] as usize)
+    whole_option(&header[at..])
 }
 
 // The least kind that is looked for: 0 and 1 have no length octet.

@@ -10,7 +10,7 @@ use serial::Seq;
 pub fn end(segment: &[u8]) -> usize
     ensures { (result ≡ 4 * data_offset segment.now) × (result ≤ 60) }
 {
-    4 * ((read_u8(segment, 12) / 16) as usize)
+    4 * usize::from(read_u8(segment, 12) / 16)
 }
 
 fn flags(octet: u8) -> Flags

@@ -189,7 +189,7 @@ pub fn read(segment: &[u8]) -> Reading
 }
 
 // The first option whose kind stands in `kinds`, as that part of the segment, kind and length octets included. The part is empty where
-// there is none, or where the segment is refused.
+// there is none, or where the segment is refused, as document 01 has it.
 pub fn find_option<'a>(segment: &'a [u8], kinds: &[u8]) -> &'a [u8]
     ensures { IsPart result segment.entry.ref_ptr (found_option segment.now kinds.now) }
 {

@@ -1,6 +1,6 @@
 // The two rules that read the options: each passes what is left to the other. They note what they read and answer nothing, so that a call of the
 // other rule is the last thing that a rule does: a Result would go through memory at each option.
-ghost use Rattle.std.specs.Prelude.{◌≡◌, ◌≤◌, ◌<◌, drop, length};
+ghost use Rattle.std.specs.Prelude.{◌≡◌, ◌≤◌, ◌<◌, None, Some, cond, drop, get_or, length};
 ghost use Rattle.segment.specs.Grammar.{is_broken, option_rule, padding_rule};
 ghost use Rattle.segment.specs.Options.{is_wrong_length};
 ghost use Rattle.segment.specs.Kinds.{kind_number};
@@ -28,7 +28,7 @@ pub fn padding_rule(header: &[u8], from: usize, notes: &mut Notes)
     option_rule(header, at, notes);
 }
 
-// The first place from `from` on that has no NOP, or the header's end.
+// The first place from `from` on that has no NOP, or the header's end. A `position` in a slice from there on is no plainer: the place is the answer.
 fn after_nops(header: &[u8], from: usize) -> usize
     requires { from ≤ length header.now }
     ensures { AfterNops header.now from result }
@@ -49,11 +49,10 @@ fn option_rule(header: &[u8], at: usize, notes: &mut Notes)
 {
     notes.steps += 1;
     let place = at as u8;
-    if is_broken(&header[at..]) {
+    let Some(n) = whole_option(&header[at..]) else {
         notes.refusal = Some(Refusal::BrokenOption(place));
         return;
-    }
-    let n = header[at + 1] as usize;
+    };
     let next = at + n;
     let Ok(kind) = Kind::try_from(header[at]) else {
         // Neither E5 nor E6 is given for an unknown kind.
@@ -76,12 +75,15 @@ fn option_rule(header: &[u8], at: usize, notes: &mut Notes)
     }
 }
 
-// E4: the option at the start of `left` has no length octet, a length under 2, or one past the end.
+// The length of the option at the start of `left`. E4 has none: no length octet, a length under 2, or one past the end.
 #[tactic(auto, unfolding(crate::specs::Grammar::is_broken))]
-pub fn is_broken(left: &[u8]) -> bool
-    ensures { result ≡ is_broken left.now }
+pub fn whole_option(left: &[u8]) -> Option<usize>
+    ensures { result ≡ cond (is_broken left.now) None (Some (get_or left.now 1 0)) }
 {
-    left.len() < 2 || left[1] < 2 || left.len() < left[1] as usize
+    if left.len() < 2 || left[1] < 2 || left.len() < usize::from(left[1]) {
+        return None;
+    }
+    Some(usize::from(left[1]))
 }
 
 // The lengths of one to four blocks.

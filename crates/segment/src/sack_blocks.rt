@@ -12,7 +12,7 @@ const UNUSED: Range = Range {
     right: Seq(0),
 };
 
-// At most four blocks, in their order.
+// At most four blocks, in their order. `Held` of receive has the same shape, and takes values that are no list.
 #[derive(Clone, Copy, PartialEq, Eq)]
 pub struct SackBlocks {
     blocks: [Range; MOST],

@@ -24,24 +24,25 @@ pub fn options(segment: &[u8], notes: &Notes) -> Options
     }
 }
 
+// An option is given by its place, here and below: a slice from there on would be one more test of a bound at each.
 fn mss(segment: &[u8], place: Option<u8>) -> Option<u16>
     ensures { (f : Found) → place ≡ place_of f → StandsIf segment.now 2 4 f → result ≡ mss_of f }
 {
-    let at = place? as usize;
+    let at = usize::from(place?);
     Some(u16::read(segment, at + 2))
 }
 
 fn scale(segment: &[u8], place: Option<u8>) -> Option<u8>
     ensures { (f : Found) → place ≡ place_of f → StandsIf segment.now 3 3 f → result ≡ scale_of f }
 {
-    let at = place? as usize;
+    let at = usize::from(place?);
     Some(read_u8(segment, at + 2))
 }
 
 fn timestamps(segment: &[u8], place: Option<u8>) -> Option<Timestamps>
     ensures { (f : Found) → place ≡ place_of f → StandsIf segment.now 8 10 f → result ≡ timestamps_of f }
 {
-    let at = place? as usize;
+    let at = usize::from(place?);
     Some(Timestamps {
         value: Stamp(u32::read(segment, at + 2)),
         echoed: Stamp(u32::read(segment, at + 6)),
@@ -54,8 +55,8 @@ fn sack_blocks(segment: &[u8], place: Option<u8>) -> SackBlocks
     let Some(place) = place else {
         return SackBlocks::none();
     };
-    let at = place as usize;
-    let count = (read_u8(segment, at + 1) as usize).saturating_sub(2) / 8;
+    let at = usize::from(place);
+    let count = usize::from(read_u8(segment, at + 1)).saturating_sub(2) / 8;
     let mut blocks = SackBlocks::none();
     // Up to a constant, so that the compiler makes no loop of it, and drops what is read where only the refusal is asked for.
     for i in 0..MOST {

@@ -17,6 +17,7 @@ const MAX_SHIFT: u32 = 14;
 // The most that one sequence number can lie before another.
 const HALF_WAY: u32 = 0x8000_0000;
 
+// `Sound` is a premise and no invariant: `is_new`, `is_listed` and other questions take any send side, sound or not.
 #[derive(Clone, Copy)]
 pub struct Send {
     // SND.UNA and SND.NXT.
@@ -139,7 +140,7 @@ impl Send {
     }
 
     // The octets that were sent and are not acknowledged.
-    fn outstanding(self) -> u32
+    pub fn outstanding(self) -> u32
         ensures { result ≡ outstanding self }
     {
         self.nxt.offset(self.una)

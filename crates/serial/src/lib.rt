@@ -6,9 +6,6 @@
 ghost use Rattle.std.specs.Prelude.{◌≡◌, ℕ};
 ghost use Rattle.serial.specs.Serial.{IsDistance, distance_of, is_at_or_before, is_before, moved_by, offset_of, round_trip, stamp_at};
 
-// The top bit of a u32.
-const TOP_BIT: u32 = 0x8000_0000;
-
 // What both kinds are: a number of 32 bits that wraps. Neither can be handed where the other is asked.
 pub trait Serial: Copy {
     ghost number: { Self → ℕ };
@@ -88,7 +85,7 @@ impl Stamp {
     pub fn at(clock: u64, offset: u32) -> Stamp
         ensures { result ≡ record { 0 = stamp_at clock offset } }
     {
-        Stamp(((clock % 0x1_0000_0000 + offset as u64) % 0x1_0000_0000) as u32)
+        Stamp(((clock % 0x1_0000_0000) as u32).wrapping_add(offset))
     }
 
     // The round-trip sample in ms that our timestamp `self` gives for the one that was echoed.
@@ -103,11 +100,5 @@ impl Stamp {
 fn difference(a: u32, b: u32) -> i32
     ensures { IsDistance a b result }
 {
-    let offset = b.wrapping_sub(a);
-    let low = (offset & !TOP_BIT) as i32;
-    if offset & TOP_BIT == 0 {
-        low
-    } else {
-        i32::MIN + low
-    }
+    b.wrapping_sub(a).cast_signed()
 }

@@ -2,7 +2,7 @@
 
 #![tactic(auto)]
 
-ghost use Rattle.std.specs.Prelude.{◌≡◌};
+ghost use Rattle.std.specs.Prelude.{◌≡◌, Some};
 ghost use Rattle.timestamps.specs.Timestamps.{is_missing, is_old, is_recorded, opened, outdated, replaces_recent, sample_at, taken};
 
 use serial::{Seq, Serial, Stamp};
@@ -61,18 +61,14 @@ impl Timestamping {
     }
 
     // The timestamps after a segment is taken, built in one place: what is unchanged is then not copied. `acked` is Last.ACK.sent.
-    #[tactic(auto, unfolding(crate::specs::Timestamps::taken))]
+    #[tactic(auto, unfolding(crate::specs::Timestamps::is_recorded, crate::specs::Timestamps::taken))]
     pub fn take(self, clock: u64, acked: Seq, seq: Seq, value: Option<Stamp>) -> Timestamping
         ensures { result ≡ taken self clock acked.0 seq.0 value }
     {
-        let recorded = self.is_recorded(clock, acked, seq, value);
+        let recorded = value.filter(|stamp| self.is_recorded(clock, acked, seq, *stamp));
         Timestamping {
-            recent: if recorded {
-                value.unwrap_or(Stamp(0))
-            } else {
-                self.recent
-            },
-            since: if recorded { clock } else { self.since },
+            recent: recorded.unwrap_or(self.recent),
+            since: if recorded.is_some() { clock } else { self.since },
             ..self
         }
     }
@@ -102,12 +98,9 @@ impl Timestamping {
 
     // Whether TSval becomes TS.Recent.
     #[tactic(auto, unfolding(crate::specs::Timestamps::is_recorded))]
-    fn is_recorded(self, clock: u64, acked: Seq, seq: Seq, value: Option<Stamp>) -> bool
-        ensures { result ≡ is_recorded self clock acked.0 seq.0 value }
+    fn is_recorded(self, clock: u64, acked: Seq, seq: Seq, value: Stamp) -> bool
+        ensures { result ≡ is_recorded self clock acked.0 seq.0 (Some value) }
     {
-        let Some(stamp) = value else {
-            return false;
-        };
-        self.active && self.replaces_recent(clock, stamp) && seq.at_or_before(acked)
+        self.active && self.replaces_recent(clock, value) && seq.at_or_before(acked)
     }
 }

@@ -1,4 +1,4 @@
-// A place in octets that are lent, where one run after the other is written.
+// A place in octets that are lent, where one run after the other is written. Its room is shown, so that no write tests a bound.
 ghost use Rattle.std.specs.Prelude.{◌++◌};
 ghost use Rattle.octets.specs.Octets.{big_endian};
 ghost use Rattle.writer.specs.Cursor.{HasRoom, Writes};

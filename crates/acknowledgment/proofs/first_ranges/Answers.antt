@@ -1,20 +1,15 @@
 -- `acknowledgment::first_ranges` meets its contract. Assumes nothing.
-use Rattle.std.proofs.Common.{◌≡◌, ℕ, zero, suc, List, [], ◌∷◌, ◌++◌, ◌≤◌, length, take, refl, sym, ap, ◌∙◌, arith}
+use Rattle.std.proofs.Common.{[], ◌∷◌, ◌++◌, ◌≤◌, length, take, sym, ap, ◌∙◌, arith}
 use Rattle.std.proofs.lemmas.Iterator.{YieldsList-from_slice, YieldsList-from_take}
 use Rattle.std.proofs.lemmas.Iterator.Consumers.{YieldsList-end}
 use Rattle.std.proofs.lemmas.List.{length-take, map-append, take_all}
+use Rattle.segment.proofs.Blocks.{take_again}
 use Rattle.acknowledgment.proofs.first_ranges.Goals as goal
-
--- what lies past the first n before more is added, lies past them afterwards
-take_more : {A : Type 0} (n : ℕ) (xs ys : List A) → take n (take n xs ++ ys) ≡ take n (xs ++ ys)
-take_more zero xs ys = refl
-take_more (suc n) [] ys = refl
-take_more (suc n) (x ∷ xs) ys = ap (λ l. x ∷ l) (take_more n xs ys)
 
 pub loop-range-preserved : goal.loop-range-preserved
 loop-range-preserved c =
     let more = c.in-Some.range.now ∷ [] in
-    c.push.ensures ∙ ap (λ blocks. take 4 (blocks ++ more)) c.loop-range.invariant ∙ take_more 4 _ more
+    c.push.ensures ∙ ap (λ blocks. take 4 (blocks ++ more)) c.loop-range.invariant ∙ take_again 4 _ more
     ∙ ap (take 4) (sym (map-append _ c.loop-range.yielded (c.in-Some.range ∷ [])))
 
 pub returns : goal.returns

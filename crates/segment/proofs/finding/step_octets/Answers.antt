@@ -5,12 +5,12 @@ use mathlib.Core.Path.{◌≡◌, refl, ap, ◌∙◌}
 use Prim.Native.Nat.{ℕ, ◌+◌, ◌≤◌, ◌<◌}
 use native.Mathlib.Omega.{arith}
 use lib.ListN.{drop, get_or, length}
-use Rattle.std.specs.Prelude.{Some, None}
+use Rattle.std.specs.Prelude.{Option, Some, None}
 use Rattle.segment.specs.Grammar.{is_broken}
 use Rattle.segment.specs.Internal.{Reaches}
 use Rattle.segment.specs.Options.{option_in, stands_in}
 use Rattle.segment.specs.Reading.{matching}
-use Rattle.segment.proofs.ByOctet.{octets_least, octets_most, padding_option, tested}
+use Rattle.segment.proofs.ByOctet.{octets_least, octets_most, broken_there, left, length_if, padding_option, whole_there}
 use Rattle.segment.proofs.Listed.{broken_found, end_found, nop_found, past_found, whole_found}
 use Rattle.segment.proofs.Membership.{stands_failed}
 use Rattle.segment.proofs.finding.step_octets.Goals as goal
@@ -48,6 +48,12 @@ module _ (header : List ℕ) (at : ℕ) where
         finds = λ kinds. ap (option_in (matching kinds)) (padding_option header at h not_end not_nop) ∙ whole_found (matching kinds) header at b;
       }
 
+      by_length : (answer : Option ℕ) → answer ≡ length_if (is_broken (left header at)) (get_or (left header at) 1 0) → Reaches header at answer
+      by_length None e = at_broken (broken_there header at e refl)
+      by_length (Some n) e =
+          let there = whole_there header at e refl in
+          rw there.1 (at_option there.0)
+
 pub returns-then-header-at : goal.returns-then-header-at
 returns-then-header-at c =
     let a = c.args in
@@ -59,20 +65,8 @@ returns-then-header-at c =
 pub returns-then-header-at-eq-NOP : goal.returns-then-header-at-eq-NOP
 returns-then-header-at-eq-NOP c = at_nop c.args.header.now c.args.at c.if-header-at.false (omega (arith, c.if-header-at-eq-NOP.true))
 
-pub returns-then-is_broken : goal.returns-then-is_broken
-returns-then-is_broken c =
-    let a = c.args in
-    at_broken a.header.now a.at c.if-header-at.false (λ e. omega (arith, e, c.if-header-at-eq-END.false)) (λ e. omega (arith, e, c.if-header-at-eq-NOP.false))
-    (tested a.header.now a.at c.is_broken.ensures c.if-is_broken.true)
-
-pub bounds-header-at-3 : goal.bounds-header-at-3
-bounds-header-at-3 c =
-    let a = c.args in
-    let unbroken = tested a.header.now a.at c.is_broken.ensures c.if-is_broken.false in
-    omega (arith, octets_least a.header.now a.at unbroken, octets_most a.header.now a.at unbroken)
-
 pub returns : goal.returns
 returns c =
     let a = c.args in
-    at_option a.header.now a.at c.if-header-at.false (λ e. omega (arith, e, c.if-header-at-eq-END.false)) (λ e. omega (arith, e, c.if-header-at-eq-NOP.false))
-    (tested a.header.now a.at c.is_broken.ensures c.if-is_broken.false)
+    by_length a.header.now a.at c.if-header-at.false (λ e. omega (arith, e, c.if-header-at-eq-END.false)) (λ e. omega (arith, e, c.if-header-at-eq-NOP.false))
+    _ c.whole_option.ensures

@@ -8,7 +8,7 @@ use lib.ListN.{get_or, length, take}
 use Rattle.std.specs.Prelude.{Some}
 use Rattle.segment.specs.Internal.{StandsIf, place_of}
 use Rattle.segment.specs.Options.{Found, blocks_from, blocks_of}
-use Rattle.segment.proofs.Blocks.{blocks_there, one_more_block, take_more}
+use Rattle.segment.proofs.Blocks.{blocks_there, one_more_block, take_again}
 use Rattle.segment.proofs.Standing.{one_there}
 use Rattle.segment.proofs.values.sack_blocks.Goals as goal
 
@@ -19,14 +19,14 @@ loop-i-init c = record { within = omega arith; read = c.none-blocks.ensures }
 pub loop-i-preserved : goal.loop-i-preserved
 loop-i-preserved c =
     let s = c.args.segment.now in
-    let at = c.in-Some.place + 2 in
+    let at = c.from-at.result + 2 in
     let l = c.loop-i in
     record {
       within = omega arith;
       read =
           c.push.ensures
           ∙ (λ j. take 4 (l.invariant.read j ++ (c.block.ensures j ∷ [])))
-          ∙ take_more 4 (blocks_from l.i s at) _
+          ∙ take_again 4 (blocks_from l.i s at) _
           ∙ ap (take 4) (sym (one_more_block l.i s at))
           ∙ ap (λ (n : ℕ). take 4 (blocks_from n s at)) (sym (add-one l.i));
     }
@@ -55,18 +55,18 @@ said s place n f counted e stands =
 pub returns-then-count-i : goal.returns-then-count-i
 returns-then-count-i c = λ f e stands.
     let s = c.args.segment.now in
-    let place = c.in-Some.place in
+    let place = c.from-at.result in
     let all : c.loop-i.i ≡ (c.read_u8.result - 2) / 8 = omega (arith, c.saturating_sub-count.ensures) in
     c.loop-i.invariant.read
     ∙ ap (λ (n : ℕ). take 4 (blocks_from n s (place + 2))) all
-    ∙ said s place _ f c.read_u8.ensures (sym c.in-Some.is ∙ e) stands
+    ∙ said s place _ f c.read_u8.ensures (ap Some c.from-at.ensures ∙ sym c.in-Some.is ∙ e) stands
 
 pub returns : goal.returns
 returns c = λ f e stands.
     let s = c.args.segment.now in
-    let place = c.in-Some.place in
+    let place = c.from-at.result in
     let four : c.loop-i.i ≡ 4 = omega arith in
     c.loop-i.invariant.read
     ∙ ap (λ (n : ℕ). take 4 (blocks_from n s (place + 2))) four
     ∙ four_read ((c.read_u8.result - 2) / 8) s (place + 2) (omega (arith, c.saturating_sub-count.ensures))
-    ∙ said s place _ f c.read_u8.ensures (sym c.in-Some.is ∙ e) stands
+    ∙ said s place _ f c.read_u8.ensures (ap Some c.from-at.ensures ∙ sym c.in-Some.is ∙ e) stands

@@ -8,7 +8,7 @@ use Rattle.segment.proofs.values.timestamps.Goals as goal
 
 pub returns : goal.returns
 returns c = λ f e stands.
-    let there = one_there c.in_ok-at.field-0 f (sym c.in_ok-at.was ∙ e) in
+    let there = one_there c.from-at.result f (ap Some c.from-at.ensures ∙ sym c.in_ok-place.was ∙ e) in
     let st = stands _ _ there.1 in
     let value = c.read.ensures ∙ number_there st 4 2 (omega (arith, st.least)) in
     let echoed = c.read-2.ensures ∙ number_there st 4 6 (omega (arith, st.least)) in

@@ -6,7 +6,7 @@ use Rattle.std.proofs.lemmas.Iterator.Consumers.{YieldsList-end}
 use Rattle.serial.specs.declared.Range.{Range}
 use Rattle.receive.specs.Ranges.{joined, left_of, ranges_of, right_of}
 use Rattle.receive.proofs.Joining.{joined_more, joined_same}
-use Rattle.receive.proofs.Held.joined.Goals as goal
+use Rattle.receive.proofs.Receive.joined.Goals as goal
 
 abbrev passed : List (Bor Range) → List Range
 passed xs = reverse (map (λ range. range.now) xs)
@@ -31,5 +31,5 @@ loop-range-preserved c =
 
 pub returns : goal.returns
 returns c =
-    let all = YieldsList-end (YieldsList-from_rev_slice (ranges_of c.args.self.now) cc) c.loop-range.yielded _ c.loop-range.yielded_by _ _ c.in-None.is c.next.ensures.steps in
+    let all = YieldsList-end (YieldsList-from_rev_slice (ranges_of c.args.self.now.held) cc) c.loop-range.yielded _ c.loop-range.yielded_by _ _ c.in-None.is c.next.ensures.steps in
     rw (all.0, reverse-reverse) at c.loop-range.invariant
