@@ -22,14 +22,13 @@ fn main(rt: HostRuntime) -> io::Result<()> {
 
 // Loads a stream, prepares its record, then answers the orders.
 fn run(rt: &impl Print, input: &mut impl Read, space: &mut [u8]) -> io::Result<()> {
-    let Some(lengths) = stream::load(input, space)? else {
+    let Some((prepared, measured)) = stream::load(input, space)? else {
         return println!(rt; "bad");
     };
-    let (prepared, later) = space.split_at_mut(lengths.prepared);
     let Some(start) = preparing::prepare(prepared) else {
         return println!(rt; "bad");
     };
-    answer_orders(rt, input, start, &mut later[..lengths.measured])
+    answer_orders(rt, input, start, measured)
 }
 
 // A proved loop has to end, so it takes more turns than any input has orders.

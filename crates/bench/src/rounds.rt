@@ -1,7 +1,9 @@
 // Rounds: the measured calls of a stream, made again and again from the record as prepared.
+use crate::segments::Bringing;
 use crate::stream::Kind;
 use crate::{acknowledging, segments, sums};
 use connection::Connection;
+use octets::read_u8;
 use std::marker::Model;
 
 // A sound record, and the sum of what the calls on it answered.
@@ -46,10 +48,10 @@ pub fn sum_of(start: Made, calls: &mut [u8], rounds: u32) -> u64 {
 
 // The sum of one round; its first call says of which kind all are.
 fn round(start: Made, calls: &mut [u8]) -> u64 {
-    match Kind::of(calls) {
-        Some(Kind::Read) => segments::make(start, calls, Kind::Read).sum,
-        Some(Kind::Arrive) => segments::make(start, calls, Kind::Arrive).with_record(),
-        Some(Kind::Acknowledge) => acknowledging::make(start, calls).with_record(),
-        _ => 0,
+    match Kind::try_from(read_u8(calls, 0)) {
+        Ok(Kind::Read) => segments::make(start, calls, Bringing::Read).sum,
+        Ok(Kind::Arrive) => segments::make(start, calls, Bringing::Arrive).with_record(),
+        Ok(Kind::Acknowledge) => acknowledging::make(start, calls).with_record(),
+        Ok(Kind::Open | Kind::Sent | Kind::Window) | Err(_) => 0,
     }
 }

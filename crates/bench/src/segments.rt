@@ -3,26 +3,34 @@
 ghost use Rattle.connection.specs.Record.{Sound};
 
 use crate::rounds::Made;
-use crate::stream::{Calls, Kind};
+use crate::stream::Calls;
 use crate::sums;
 use connection::Connection;
 use octets::Number;
 use refusals::Numbered;
 use segment::Segment;
 
-// Makes the calls, all of one kind of these three, each on the record that the one before left.
-pub fn make(start: Made, calls: &mut [u8], kind: Kind) -> Made {
+// The kinds of calls that bring a segment; a kind of any other call has no arm here.
+#[derive(Clone, Copy)]
+pub enum Bringing {
+    Read,
+    Open,
+    Arrive,
+}
+
+// Makes the calls, all of one kind, each on the record that the one before left.
+pub fn make(start: Made, calls: &mut [u8], kind: Bringing) -> Made {
     let mut made = start;
     let skip = fixed_octets(kind);
     for call in Calls(calls) {
         let reading = segment::read(call.get(skip..).unwrap_or(&[]));
         match (reading.outcome, kind) {
-            (Err(why), Kind::Read) => made.add(sums::refusal(why, reading.steps)),
+            (Err(why), Bringing::Read) => made.add(sums::refusal(why, reading.steps)),
             // An arrival does not give the steps.
-            (Err(why), _) => made.add(sums::refusal(why, 0)),
-            (Ok(s), Kind::Read) => made.add(sums::segment(&s, reading.steps)),
-            (Ok(syn), Kind::Open) => made.connection = open(call, &syn),
-            (Ok(s), _) => match made.connection.arrive_read(u64::read(call, 5), &s) {
+            (Err(why), Bringing::Open | Bringing::Arrive) => made.add(sums::refusal(why, 0)),
+            (Ok(s), Bringing::Read) => made.add(sums::segment(&s, reading.steps)),
+            (Ok(syn), Bringing::Open) => made.connection = open(call, &syn),
+            (Ok(s), Bringing::Arrive) => match made.connection.arrive_read(u64::read(call, 5), &s) {
                 Ok(arrival) => {
                     made.add(sums::arrival(&arrival));
                     made.connection = arrival.connection;
@@ -35,11 +43,11 @@ pub fn make(start: Made, calls: &mut [u8], kind: Kind) -> Made {
 }
 
 // How many octets of a call stand before its segment.
-fn fixed_octets(kind: Kind) -> usize {
+fn fixed_octets(kind: Bringing) -> usize {
     match kind {
-        Kind::Read => 5,
-        Kind::Open => 27,
-        _ => 13,
+        Bringing::Read => 5,
+        Bringing::Open => 27,
+        Bringing::Arrive => 13,
     }
 }
 

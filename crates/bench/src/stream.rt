@@ -1,62 +1,63 @@
 // A recorded stream of calls: how many octets the prepared and the measured ones have, then the calls, one after the other.
-ghost use Rattle.std.specs.Prelude.{◌+◌, ◌<◌, ◌≤◌, length, IfOk, IfSome};
+ghost use Rattle.std.specs.Prelude.{◌<◌, ◌≤◌, length};
 ghost use Rattle.std.specs.Iterator.{at_most};
 
-use octets::{Number, read_u8};
+use octets::Number;
 use std::io::{ErrorKind, Read};
 use std::{io, mem};
 
 // The most octets that the calls of a stream have.
 pub const MOST_OCTETS: usize = 262_144;
 
-// How many octets the prepared calls have, and the measured ones, which follow them.
-#[derive(Clone, Copy)]
-pub struct Lengths {
-    pub prepared: usize,
-    pub measured: usize,
-}
-
-// The kinds of calls that a stream has.
+// The kinds of calls that a stream has, each by its first octet. `Call` of replay has more, and its `try_from` promises nothing: shared in
+// `script`, it would ask a contract there.
 #[derive(Clone, Copy)]
 pub enum Kind {
-    Read,
-    Open,
-    Arrive,
-    Sent,
-    Window,
-    Acknowledge,
+    Read = 1,
+    Open = 4,
+    Arrive = 5,
+    Sent = 6,
+    Window = 7,
+    Acknowledge = 8,
 }
 
-impl Kind {
-    // By the first octet of a call.
-    pub fn of(call: &[u8]) -> Option<Kind> {
-        match read_u8(call, 0) {
-            1 => Some(Kind::Read),
-            4 => Some(Kind::Open),
-            5 => Some(Kind::Arrive),
-            6 => Some(Kind::Sent),
-            7 => Some(Kind::Window),
-            8 => Some(Kind::Acknowledge),
-            _ => None,
+#[derive(Clone, Copy)]
+pub struct UnknownKind;
+
+impl TryFrom<u8> for Kind {
+    type Error = UnknownKind;
+
+    fn try_from(octet: u8) -> Result<Kind, UnknownKind> {
+        match octet {
+            1 => Ok(Kind::Read),
+            4 => Ok(Kind::Open),
+            5 => Ok(Kind::Arrive),
+            6 => Ok(Kind::Sent),
+            7 => Ok(Kind::Window),
+            8 => Ok(Kind::Acknowledge),
+            _ => Err(UnknownKind),
         }
     }
 }
 
-// Reads a stream, and puts its calls at the start of `space`; nothing where the input is no stream.
-pub fn load(input: &mut impl Read, space: &mut [u8]) -> io::Result<Option<Lengths>>
-    ensures { IfOk result (λ found. IfSome found (λ l. l.prepared + l.measured ≤ length space.new)) }
-{
+// Reads a stream into the start of `space`, and answers its prepared calls and its measured ones; nothing where the input is no stream.
+pub fn load<'a>(
+    input: &mut impl Read,
+    space: &'a mut [u8],
+) -> io::Result<Option<(&'a mut [u8], &'a mut [u8])>> {
     let mut head = [0; 8];
     if !fill(input, &mut head)? {
         return Ok(None);
     }
     let prepared = u32::read(&head, 0) as usize;
     let measured = u32::read(&head, 4) as usize;
-    let end = prepared + measured;
-    if space.len() < end || !fill(input, &mut space[..end])? {
+    let Some(calls) = space.get_mut(..prepared + measured) else {
+        return Ok(None);
+    };
+    if !fill(input, calls)? {
         return Ok(None);
     }
-    Ok(Some(Lengths { prepared, measured }))
+    Ok(Some(calls.split_at_mut(prepared)))
 }
 
 // Whether the input had enough octets to fill these.

@@ -1,22 +1,22 @@
 // Calls on the connection record: opening it, an arriving segment, octets sent, the receive window, an acknowledgment, expiry.
+ghost use Rattle.std.specs.Prelude.{IfOk};
+ghost use Rattle.connection.specs.Record.{Sound};
+
 use crate::place_or_count;
 use crate::state::State;
 use crate::text::{Hex, OrDash, Ranges, RecordFields};
-use connection::{Arrival, ArriveRefusal, Connection, ProfileRefusal};
+use connection::{Arrival, ArriveRefusal, Connection, Opened, ProfileRefusal};
 use octets::Number;
 use refusals::{Numbered, number_of};
 use std::io;
 use writer::Ports;
 
-// Opens a record from the peer's SYN; the record that was there stays where the opening is refused.
+// Opens a record from the peer's SYN.
 pub fn open(rt: &impl Print, state: &mut State, body: &[u8]) -> io::Result<()> {
     let answer = Connection::open(script::setup(body), u64::read(body, 14), rest(body, 22));
     let place = place_or_count::of_opening(answer);
     println!(rt; "open {} {}", number_of(&answer), OrDash(place))?;
-    if let Ok(opened) = answer {
-        state.connection = Some(opened.connection);
-    }
-    record_line(rt, state)
+    keep_opened(rt, state, answer)
 }
 
 // The same under the field-station profile.
@@ -34,24 +34,59 @@ pub fn open_under_profile(rt: &impl Print, state: &mut State, body: &[u8]) -> io
         OrDash(lack),
         OrDash(place)
     )?;
+    keep_opened(rt, state, answer)
+}
+
+// The record that was there stays where the opening is refused.
+fn keep_opened<E: Copy>(
+    rt: &impl Print,
+    state: &mut State,
+    answer: Result<Opened, E>,
+) -> io::Result<()>
+    requires { IfOk answer (λ opened. Sound opened.connection) }
+{
     if let Ok(opened) = answer {
         state.connection = Some(opened.connection);
     }
     record_line(rt, state)
 }
 
-pub fn arrive(rt: &impl Print, state: &mut State, body: &[u8]) -> io::Result<()> {
+// Makes a call on the record, and keeps the record that it leaves; no call where none was opened.
+fn on_record<F: FnOnce(Connection) -> io::Result<Connection>>(
+    rt: &impl Print,
+    state: &mut State,
+    call: F,
+) -> io::Result<()>
+    requires callable { (k : _) → Sound k → F.pre call k }
+    requires keeps_sound { (k : _) (left : _) → Sound k → F.post call k left → IfOk left Sound }
+{
     let Some(k) = state.connection else {
-        return closed(rt);
+        return println!(rt; "closed");
     };
-    match k.arrive(u64::read(body, 0), rest(body, 8)) {
-        Ok(arrival) => {
-            print_arrival(rt, &arrival)?;
-            state.connection = Some(arrival.connection);
-        }
-        Err(why) => print_arrive_refusal(rt, why)?,
-    }
+    state.connection = Some(call(k)?);
     record_line(rt, state)
+}
+
+pub fn arrive(rt: &impl Print, state: &mut State, body: &[u8]) -> io::Result<()> {
+    on_record(
+        rt,
+        state,
+        |k|
+            requires { Sound k }
+            ensures { IfOk result Sound }
+        {
+            match k.arrive(u64::read(body, 0), rest(body, 8)) {
+                Ok(arrival) => {
+                    print_arrival(rt, &arrival)?;
+                    Ok(arrival.connection)
+                }
+                Err(why) => {
+                    print_arrive_refusal(rt, why)?;
+                    Ok(k)
+                }
+            }
+        },
+    )
 }
 
 fn print_arrival(rt: &impl Print, arrival: &Arrival) -> io::Result<()> {
@@ -74,65 +109,81 @@ fn print_arrive_refusal(rt: &impl Print, why: ArriveRefusal) -> io::Result<()> {
 }
 
 pub fn note_sent(rt: &impl Print, state: &mut State, body: &[u8]) -> io::Result<()> {
-    let Some(k) = state.connection else {
-        return closed(rt);
-    };
-    let answer = k.note_sent(u32::read(body, 0));
-    println!(rt; "sent {}", number_of(&answer))?;
-    state.connection = Some(answer.unwrap_or(k));
-    record_line(rt, state)
+    on_record(
+        rt,
+        state,
+        |k|
+            requires { Sound k }
+            ensures { IfOk result Sound }
+        {
+            let answer = k.note_sent(u32::read(body, 0));
+            println!(rt; "sent {}", number_of(&answer))?;
+            Ok(answer.unwrap_or(k))
+        },
+    )
 }
 
 pub fn open_window(rt: &impl Print, state: &mut State, body: &[u8]) -> io::Result<()> {
-    let Some(k) = state.connection else {
-        return closed(rt);
-    };
-    let answer = k.open_window(u32::read(body, 0));
-    println!(rt; "window {}", number_of(&answer))?;
-    state.connection = Some(answer.unwrap_or(k));
-    record_line(rt, state)
+    on_record(
+        rt,
+        state,
+        |k|
+            requires { Sound k }
+            ensures { IfOk result Sound }
+        {
+            let answer = k.open_window(u32::read(body, 0));
+            println!(rt; "window {}", number_of(&answer))?;
+            Ok(answer.unwrap_or(k))
+        },
+    )
 }
 
 // Writes an acknowledgment into the buffer that the body ends in.
 pub fn acknowledge(rt: &impl Print, state: &mut State, body: &mut [u8]) -> io::Result<()> {
-    let Some(k) = state.connection else {
-        return closed(rt);
-    };
     let at = body.len().min(12);
     let (fields, buffer) = body.split_at_mut(at);
     let ports = Ports {
         source: u16::read(fields, 0),
         destination: u16::read(fields, 2),
     };
-    let answer = acknowledgment::write(k, ports, u64::read(fields, 4), buffer);
-    let length = answer.map_or(0, |written| written.length);
-    println!(rt;
-        "acknowledge {} {length} {}",
-        number_of(&answer),
-        Hex(buffer)
-    )?;
-    if let Ok(written) = answer {
-        state.connection = Some(written.connection);
-    }
-    record_line(rt, state)
+    on_record(
+        rt,
+        state,
+        |k|
+            requires { Sound k }
+            ensures { IfOk result Sound }
+        {
+            let answer = acknowledgment::write(k, ports, u64::read(fields, 4), buffer);
+            let length = answer.map_or(0, |written| written.length);
+            println!(rt;
+                "acknowledge {} {length} {}",
+                number_of(&answer),
+                Hex(buffer)
+            )?;
+            match answer {
+                Ok(written) => Ok(written.connection),
+                Err(_) => Ok(k),
+            }
+        },
+    )
 }
 
 pub fn expire(rt: &impl Print, state: &mut State) -> io::Result<()> {
-    let Some(k) = state.connection else {
-        return closed(rt);
-    };
-    println!(rt; "expire")?;
-    state.connection = Some(k.expire());
-    record_line(rt, state)
+    on_record(
+        rt,
+        state,
+        |k|
+            requires { Sound k }
+            ensures { IfOk result Sound }
+        {
+            println!(rt; "expire")?;
+            Ok(k.expire())
+        },
+    )
 }
 
 fn rest(body: &[u8], from: usize) -> &[u8] {
     body.get(from..).unwrap_or(&[])
-}
-
-// The answer of a call on a record where none was opened.
-fn closed(rt: &impl Print) -> io::Result<()> {
-    println!(rt; "closed")
 }
 
 fn record_line(rt: &impl Print, state: &State) -> io::Result<()> {
