@@ -9,8 +9,8 @@ use std::{io, mem};
 // The most octets that the calls of a stream have.
 pub const MOST_OCTETS: usize = 262_144;
 
-// The kinds of calls that a stream has, each by its first octet. `Call` of replay has more, and its `try_from` promises nothing: shared in
-// `script`, it would ask a contract there.
+// The kinds of calls that a stream has, each by its first octet. `Call` of replay has ten more, none of which a stream may have: with that type
+// each match here would have an arm for calls that never come.
 #[derive(Clone, Copy)]
 pub enum Kind {
     Read = 1,

@@ -253,6 +253,8 @@ pub fn arrival_number(answer: &Result<Arrival, ArriveRefusal>) -> u8
     }
 }
 
+// An opening has four ways, by octets or fields and with the profile or without, so that none can give a refusal that is not its own; setup, clock
+// and SYN are what each caller has.
 impl Connection {
     // Opens a record from the peer's SYN segment: E9, reading, E10, E11.
     #[tactic(auto, using(crate::proofs::Exits::read_shown, crate::proofs::Exits::unread_opening, crate::proofs::Exits::read_opening), unfolding(crate::specs::Opening::opening))]

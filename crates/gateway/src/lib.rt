@@ -1,4 +1,5 @@
-// What a gateway calls; the crate `gateway_c` has the same three functions for C.
+// What a gateway calls. The crate `gateway_c` has the same three functions for C: a crate of exports is a static library, which no program of ours
+// can stand on.
 
 #![tactic(auto)]
 

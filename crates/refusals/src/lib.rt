@@ -5,6 +5,7 @@
 ghost use Rattle.std.specs.Prelude.{◌≡◌, ◌<◌, ℕ};
 ghost use Rattle.refusals.specs.Number.{number_of};
 
+// A refusal of one kind alone is a struct without fields in the crate that refuses, and not one type over all numbers: its name says what is refused.
 pub trait Numbered: Copy {
     ghost number: { Self → ℕ };
 

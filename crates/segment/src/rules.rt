@@ -1,5 +1,6 @@
 // The two rules that read the options: each passes what is left to the other. They note what they read and answer nothing, so that a call of the
-// other rule is the last thing that a rule does: a Result would go through memory at each option.
+// other rule is the last thing that a rule does: a Result would go through memory at each option. Header and place are passed on, since places in
+// the segment are noted.
 ghost use Rattle.std.specs.Prelude.{◌≡◌, ◌≤◌, ◌<◌, None, Some, cond, drop, get_or, length};
 ghost use Rattle.segment.specs.Grammar.{is_broken, option_rule, padding_rule};
 ghost use Rattle.segment.specs.Options.{is_wrong_length};
