@@ -13,6 +13,7 @@ mod timer_calls;
 
 use call::Call;
 use input::{InputError, MAX_BODY};
+use record_calls::on_record;
 use state::State;
 use std::io;
 use std::io::Read;
@@ -44,11 +45,11 @@ fn answer(rt: &impl Print, state: &mut State, call: Call, body: &mut [u8]) -> io
         Call::Find => queries::find(rt, body),
         Call::Distance => queries::distance(rt, body),
         Call::Open => record_calls::open(rt, state, body),
-        Call::Arrive => record_calls::arrive(rt, state, body),
-        Call::Sent => record_calls::note_sent(rt, state, body),
-        Call::Window => record_calls::open_window(rt, state, body),
-        Call::Acknowledge => record_calls::acknowledge(rt, state, body),
-        Call::Expire => record_calls::expire(rt, state),
+        Call::Arrive => on_record(rt, state, |k| record_calls::arrive(rt, k, body)),
+        Call::Sent => on_record(rt, state, |k| record_calls::note_sent(rt, k, body)),
+        Call::Window => on_record(rt, state, |k| record_calls::open_window(rt, k, body)),
+        Call::Acknowledge => on_record(rt, state, |k| record_calls::acknowledge(rt, k, body)),
+        Call::Expire => on_record(rt, state, |k| record_calls::expire(rt, k)),
         Call::Timer => timer_calls::renew(rt, state),
         Call::Sample => timer_calls::sample(rt, state, body),
         Call::Expiry => timer_calls::expire(rt, state),

@@ -52,7 +52,7 @@ fn keep_opened<E: Copy>(
 }
 
 // Makes a call on the record, and keeps the record that it leaves; no call where none was opened.
-fn on_record<F: FnOnce(Connection) -> io::Result<Connection>>(
+pub fn on_record<F: FnOnce(Connection) -> io::Result<Connection>>(
     rt: &impl Print,
     state: &mut State,
     call: F,
@@ -67,26 +67,20 @@ fn on_record<F: FnOnce(Connection) -> io::Result<Connection>>(
     record_line(rt, state)
 }
 
-pub fn arrive(rt: &impl Print, state: &mut State, body: &[u8]) -> io::Result<()> {
-    on_record(
-        rt,
-        state,
-        |k|
-            requires { Sound k }
-            ensures { IfOk result Sound }
-        {
-            match k.arrive(u64::read(body, 0), rest(body, 8)) {
-                Ok(arrival) => {
-                    print_arrival(rt, &arrival)?;
-                    Ok(arrival.connection)
-                }
-                Err(why) => {
-                    print_arrive_refusal(rt, why)?;
-                    Ok(k)
-                }
-            }
-        },
-    )
+pub fn arrive(rt: &impl Print, k: Connection, body: &[u8]) -> io::Result<Connection>
+    requires { Sound k }
+    ensures { IfOk result Sound }
+{
+    match k.arrive(u64::read(body, 0), rest(body, 8)) {
+        Ok(arrival) => {
+            print_arrival(rt, &arrival)?;
+            Ok(arrival.connection)
+        }
+        Err(why) => {
+            print_arrive_refusal(rt, why)?;
+            Ok(k)
+        }
+    }
 }
 
 fn print_arrival(rt: &impl Print, arrival: &Arrival) -> io::Result<()> {
@@ -108,78 +102,54 @@ fn print_arrive_refusal(rt: &impl Print, why: ArriveRefusal) -> io::Result<()> {
     println!(rt; "arrive {} 0 0 0 0 {}", why.number(), OrDash(place))
 }
 
-pub fn note_sent(rt: &impl Print, state: &mut State, body: &[u8]) -> io::Result<()> {
-    on_record(
-        rt,
-        state,
-        |k|
-            requires { Sound k }
-            ensures { IfOk result Sound }
-        {
-            let answer = k.note_sent(u32::read(body, 0));
-            println!(rt; "sent {}", number_of(&answer))?;
-            Ok(answer.unwrap_or(k))
-        },
-    )
+pub fn note_sent(rt: &impl Print, k: Connection, body: &[u8]) -> io::Result<Connection>
+    requires { Sound k }
+    ensures { IfOk result Sound }
+{
+    let answer = k.note_sent(u32::read(body, 0));
+    println!(rt; "sent {}", number_of(&answer))?;
+    Ok(answer.unwrap_or(k))
 }
 
-pub fn open_window(rt: &impl Print, state: &mut State, body: &[u8]) -> io::Result<()> {
-    on_record(
-        rt,
-        state,
-        |k|
-            requires { Sound k }
-            ensures { IfOk result Sound }
-        {
-            let answer = k.open_window(u32::read(body, 0));
-            println!(rt; "window {}", number_of(&answer))?;
-            Ok(answer.unwrap_or(k))
-        },
-    )
+pub fn open_window(rt: &impl Print, k: Connection, body: &[u8]) -> io::Result<Connection>
+    requires { Sound k }
+    ensures { IfOk result Sound }
+{
+    let answer = k.open_window(u32::read(body, 0));
+    println!(rt; "window {}", number_of(&answer))?;
+    Ok(answer.unwrap_or(k))
 }
 
 // Writes an acknowledgment into the buffer that the body ends in.
-pub fn acknowledge(rt: &impl Print, state: &mut State, body: &mut [u8]) -> io::Result<()> {
+pub fn acknowledge(rt: &impl Print, k: Connection, body: &mut [u8]) -> io::Result<Connection>
+    requires { Sound k }
+    ensures { IfOk result Sound }
+{
     let at = body.len().min(12);
     let (fields, buffer) = body.split_at_mut(at);
     let ports = Ports {
         source: u16::read(fields, 0),
         destination: u16::read(fields, 2),
     };
-    on_record(
-        rt,
-        state,
-        |k|
-            requires { Sound k }
-            ensures { IfOk result Sound }
-        {
-            let answer = acknowledgment::write(k, ports, u64::read(fields, 4), buffer);
-            let length = answer.map_or(0, |written| written.length);
-            println!(rt;
-                "acknowledge {} {length} {}",
-                number_of(&answer),
-                Hex(buffer)
-            )?;
-            match answer {
-                Ok(written) => Ok(written.connection),
-                Err(_) => Ok(k),
-            }
-        },
-    )
+    let answer = acknowledgment::write(k, ports, u64::read(fields, 4), buffer);
+    let length = answer.map_or(0, |written| written.length);
+    println!(rt;
+        "acknowledge {} {length} {}",
+        number_of(&answer),
+        Hex(buffer)
+    )?;
+    match answer {
+        Ok(written) => Ok(written.connection),
+        Err(_) => Ok(k),
+    }
 }
 
-pub fn expire(rt: &impl Print, state: &mut State) -> io::Result<()> {
-    on_record(
-        rt,
-        state,
-        |k|
-            requires { Sound k }
-            ensures { IfOk result Sound }
-        {
-            println!(rt; "expire")?;
-            Ok(k.expire())
-        },
-    )
+pub fn expire(rt: &impl Print, k: Connection) -> io::Result<Connection>
+    requires { Sound k }
+    ensures { IfOk result Sound }
+{
+    println!(rt; "expire")?;
+    Ok(k.expire())
 }
 
 fn rest(body: &[u8], from: usize) -> &[u8] {
