@@ -68,7 +68,11 @@ impl Timestamping {
         let recorded = value.filter(|stamp| self.is_recorded(clock, acked, seq, *stamp));
         Timestamping {
             recent: recorded.unwrap_or(self.recent),
-            since: if recorded.is_some() { clock } else { self.since },
+            since: if recorded.is_some() {
+                clock
+            } else {
+                self.since
+            },
             ..self
         }
     }
