@@ -69,8 +69,8 @@ pub fn fill(input: &mut impl Read, octets: &mut [u8]) -> io::Result<bool> {
     }
 }
 
-// The calls of a stream, each with the five octets before its body. They are open to writing, since an acknowledgment goes into its call. The
-// last one may be cut short.
+// The calls of a stream, each with the five octets before its body, so that a field lies five octets further than in a body alone. They are open
+// to writing, since an acknowledgment goes into its call. The last one may be cut short.
 #[derive(Drop)]
 pub struct Calls<'a>(pub &'a mut [u8]);
 

@@ -38,7 +38,7 @@ fn play(rt: &impl Print, script: &mut impl Read, space: &mut [u8]) -> io::Result
     Ok(())
 }
 
-// Makes a call, and writes its answer.
+// Makes a call, and writes its answer: one match of each call on its function, which no table would say more plainly.
 fn answer(rt: &impl Print, state: &mut State, call: Call, body: &mut [u8]) -> io::Result<()> {
     match call {
         Call::Read => queries::read(rt, body),

@@ -27,6 +27,7 @@ pub fn distance(rt: &impl Print, body: &[u8]) -> io::Result<()> {
     println!(rt; "distance {}", from.distance(to))
 }
 
+// By the function for C, which a script calls apart.
 pub fn distance_for_c(rt: &impl Print, body: &[u8]) -> io::Result<()> {
     let from = u32::read(body, 0);
     let to = u32::read(body, 4);

@@ -51,7 +51,8 @@ fn keep_opened<E: Copy>(
     record_line(rt, state)
 }
 
-// Makes a call on the record, and keeps the record that it leaves; no call where none was opened.
+// Makes a call on the record, and keeps the record that it leaves; no call where none was opened. A record that is out of its state has no invariant,
+// so each call asks that it is sound, and says so of what it leaves.
 pub fn on_record<F: FnOnce(Connection) -> io::Result<Connection>>(
     rt: &impl Print,
     state: &mut State,
