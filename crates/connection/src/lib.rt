@@ -126,11 +126,12 @@ pub enum ArriveRefusal {
 #[derive(Clone, Copy)]
 pub struct Arrival {
     pub verdict: Verdict,
+    // Whether FIN lies in the part. It stands here since before the blocks it would leave padding, which the compiler copies with them in pieces
+    // that overlap.
+    pub fin: bool,
     // How many unknown options of the segment were skipped.
     pub skipped: usize,
     pub part: Part,
-    // Whether FIN lies in the part.
-    pub fin: bool,
     pub blocks: SackBlocks,
     pub connection: Connection,
 }
@@ -404,9 +405,9 @@ impl Connection {
         let connection = self.record_after(clock, s);
         Arrival {
             verdict: Verdict::Take,
+            fin: self.receive.has_fin(s.seq, s.len, s.flags.fin),
             skipped: s.skipped,
             part: self.receive.new_part(s.seq, s.len),
-            fin: self.receive.has_fin(s.seq, s.len, s.flags.fin),
             blocks: connection.listed(s),
             connection,
         }
@@ -418,9 +419,9 @@ impl Connection {
     {
         Arrival {
             verdict,
+            fin: false,
             skipped,
             part: Part::empty(),
-            fin: false,
             blocks: SackBlocks::none(),
             connection: self,
         }
