@@ -1,16 +1,17 @@
 // Calls without a state: reading a segment, finding an option, the distance, and the functions for C.
 use crate::text::{Hex, OrDash, SegmentFields};
 use octets::Number;
-use refusals::Numbered;
+use refusals::number_of;
 use serial::{Seq, Serial};
 use std::io;
 
 pub fn read(rt: &impl Print, segment: &[u8]) -> io::Result<()> {
     let reading = segment::read(segment);
+    let number = number_of(&reading.outcome);
     let steps = reading.steps;
     match reading.outcome {
-        Ok(s) => println!(rt; "read 0 {} {} {steps}", SegmentFields(s), s.skipped),
-        Err(why) => println!(rt; "read {} {} {steps}", why.number(), OrDash(why.place())),
+        Ok(s) => println!(rt; "read {number} {} {} {steps}", SegmentFields(s), s.skipped),
+        Err(why) => println!(rt; "read {number} {} {steps}", OrDash(why.place())),
     }
 }
 
