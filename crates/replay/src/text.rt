@@ -1,9 +1,17 @@
-// How the fields of a line are printed: in decimal, one space apart. They are parts of one print, since each print is a call of the system.
+// How the fields of a line are printed: in decimal, one space apart. They are parts of one print, which is a call of the system for
+// each 1,024 octets, and one for what is left.
+ghost use Rattle.std.specs.Prelude.{◌≤◌, length};
+
 use connection::Connection;
 use rto::Timer;
 use segment::Segment;
 use serial::Range;
-use std::fmt;
+use std::{fmt, str};
+
+const DIGITS: &[u8; 16] = b"0123456789abcdef";
+
+// The most octets whose digits are written as one text.
+const CHUNK: usize = 256;
 
 // `-` for what is absent.
 #[derive(Clone, Copy)]
@@ -27,11 +35,27 @@ impl fmt::Display for Hex<'_> {
         if self.0.is_empty() {
             return f.write_str("-");
         }
-        for octet in self.0 {
-            write!(f, "{octet:02x}")?;
+        for octets in self.0.chunks(CHUNK) {
+            write_chunk(f, octets)?;
         }
         Ok(())
     }
+}
+
+// Writes a chunk's digits as one text, since each text has a cost of its own.
+fn write_chunk<W: fmt::Write>(f: &mut fmt::Formatter<W>, octets: &[u8]) -> fmt::Result
+    requires { length octets.now ≤ CHUNK }
+{
+    let mut digits = [[0; 2]; CHUNK];
+    for (pair, octet) in digits.iter_mut().zip(octets) {
+        *pair = [
+            DIGITS[usize::from(octet / 16)],
+            DIGITS[usize::from(octet % 16)],
+        ];
+    }
+    let text = digits[..octets.len()].as_flattened();
+    // Digits are always text, so this refuses none.
+    f.write_str(str::from_utf8(text).map_err(|_| fmt::Error)?)
 }
 
 // How many ranges there are, and the two edges of each.
