@@ -57,11 +57,11 @@ pub fn write(header: Header, options: &Options, buffer: &mut [u8]) -> Result<usi
     ensures { shown_writing result buffer.new ≡ writing header options.now buffer.old }
 {
     let blocks = sizes::fitting(options);
-    let size = sizes::size(options, blocks.as_slice());
+    let size = sizes::size(options, blocks);
     if buffer.len() < size {
         return Err(BufferTooShort);
     }
     fixed_header::write_header(buffer, header, (size / 4) as u8);
-    option_list::write_options(buffer, options, blocks.as_slice());
+    option_list::write_options(buffer, options, blocks);
     Ok(size)
 }

@@ -3,7 +3,7 @@ ghost use Rattle.std.specs.Prelude.{cond, ◌≡◌, ◌+◌, ◌≤◌, length}
 ghost use Rattle.writer.specs.Writing.{fitting, options_written, others_written, sack_written};
 
 use super::FIXED_HEADER;
-use segment::{Options, SackBlocks};
+use segment::Options;
 use serial::Range;
 
 fn size_if(there: bool, size: usize) -> usize
@@ -41,11 +41,12 @@ fn sack_size(blocks: &[Range]) -> usize
 
 // As many of the first blocks as fit beside the other options.
 #[tactic(auto, unfolding(crate::specs::Writing::fitting))]
-pub fn fitting(options: &Options) -> SackBlocks
-    ensures { result ≡ fitting options.now }
+pub fn fitting(options: &Options) -> &[Range]
+    ensures { result.now ≡ fitting options.now }
 {
     let room = (40 - others_size(options) - 4) / 8;
-    options.blocks.first(room)
+    let blocks = options.blocks.as_slice();
+    &blocks[..room.min(blocks.len())]
 }
 
 // Header and options, with those of the blocks that fit.
