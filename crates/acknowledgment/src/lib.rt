@@ -101,14 +101,10 @@ fn first_ranges(ranges: &[Range], most: usize) -> SackBlocks
     requires { most ≤ 4 }
     ensures { result ≡ take most ranges.now }
 {
-    let count = ranges.len().min(most);
     let mut blocks = SackBlocks::none();
-    // Up to a constant, so that the compiler makes no loop of it.
-    for i in 0..4 {
-        if count <= i {
-            return blocks;
-        }
-        blocks.push(ranges[i]);
+    // Up to a constant besides, so that the compiler makes no loop of it.
+    for range in ranges.iter().take(most).take(4) {
+        blocks.push(*range);
     }
     blocks
 }
@@ -122,9 +118,7 @@ fn own_blocks(k: Connection) -> SackBlocks
         return SackBlocks::none();
     }
     let most = if k.timestamping.active { 3 } else { 4 };
-    // A copy is gone through, so that the compiler can keep the record in registers.
-    let held = k.receive.held;
-    first_ranges(held.as_slice(), most)
+    first_ranges(k.receive.held.as_slice(), most)
 }
 
 #[tactic(auto, unfolding(crate::specs::Acknowledgment::own_options))]

@@ -1,6 +1,7 @@
--- The ranges gone through are the blocks. Assumes nothing.
-use Rattle.std.proofs.Common.{◌≡◌, ◌≤◌, take}
+-- The ranges that were passed are the blocks, at most four. Assumes nothing.
+use Rattle.std.proofs.Common.{◌≡◌, take}
+use mathlib.Core.List.{map}
 use Rattle.acknowledgment.proofs.first_ranges.Given as goal
 
-abbrev pub invariant-loop-i : goal.invariant-loop-i
-invariant-loop-i l = record { within : l.i ≤ l.count; taken : l.blocks ≡ take l.i l.ranges }
+abbrev pub invariant-loop-range : goal.invariant-loop-range
+invariant-loop-range l = l.blocks ≡ take 4 (map (λ r. r.now) l.yielded)
