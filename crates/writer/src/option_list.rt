@@ -62,7 +62,9 @@ fn write_sack(out: &mut Cursor<'_>, blocks: &[Range])
     if blocks.is_empty() {
         return;
     }
-    out.put(&[NOP, NOP, Kind::Sack as u8, (8 * blocks.len() + 2) as u8]);
+    // The length is put by itself: in one run with constants, it would be stored in another piece than it is loaded in.
+    out.put(&[NOP, NOP, Kind::Sack as u8]);
+    out.put(&[(8 * blocks.len() + 2) as u8]);
     for block in blocks {
         out.put_pair(block.left.0, block.right.0);
     }
