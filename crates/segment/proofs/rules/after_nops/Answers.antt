@@ -20,19 +20,19 @@ one_passed header from at forward within nop passed = λ before k notes o.
 pub loop-at-preserved : goal.loop-at-preserved
 loop-at-preserved c =
     let l = c.loop-at in
-    let nop : get_or c.args.header.now l.at 0 ≡ 1 = omega (arith, c.if-header-at-ne-NOP.false) in
-    record {
-      forward = omega arith;
-      passed = one_passed c.args.header.now c.args.from l.at l.invariant.forward c.loop-at-test.true nop l.invariant.passed;
-    }
-
-pub returns : goal.returns
-returns c =
-    let l = c.loop-at in
-    let all : l.at ≡ length c.args.header.now = omega arith in
+    let nop : get_or c.args.header.now l.at 0 ≡ 1 = omega (arith, c.if-header-at-eq-NOP.true) in
     record {
       forward = omega arith;
       within = omega arith;
-      no_nop = λ h e. absurd (omega arith);
-      passed = subst (NopsPassed c.args.header.now c.args.from) all l.invariant.passed;
+      passed = one_passed c.args.header.now c.args.from l.at l.invariant.forward c.loop-at-test.true nop l.invariant.passed;
     }
+
+pub returns-after-loop-at : goal.returns-after-loop-at
+returns-after-loop-at c =
+    let i = c.loop-at.invariant in
+    record { forward = i.forward; within = i.within; no_nop = λ h e. absurd (omega arith); passed = i.passed }
+
+pub returns-else-header-at-eq-NOP : goal.returns-else-header-at-eq-NOP
+returns-else-header-at-eq-NOP c =
+    let i = c.loop-at.invariant in
+    record { forward = i.forward; within = i.within; no_nop = λ h e. c.if-header-at-eq-NOP.false (omega (arith, e)); passed = i.passed }
