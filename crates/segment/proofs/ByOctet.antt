@@ -16,7 +16,7 @@ use Rattle.segment.specs.Grammar.{broken, end, is_broken, length_least, length_m
 use Rattle.segment.specs.Reading.{data_offset, option_octets}
 
 -- the part of a slice from n to its end, `&l[n..]`
-to_the_end : (n : ℕ) (l : List ℕ) → take (length l - n) (drop n l) ≡ drop n l
+pub to_the_end : (n : ℕ) (l : List ℕ) → take (length l - n) (drop n l) ≡ drop n l
 to_the_end n l = take_all (length l - n) (drop n l) (simp length-drop (omega arith))
 
 -- the length of a whole option, and none of a broken one

@@ -1,6 +1,7 @@
 -- What the contracts of private functions cite: what the reader notes of the options while the rules run, and how far a step reaches. No
 -- promise of the crate rests on these.
-use Rattle.std.specs.Prelude.{ℕ, ◌+◌, ◌-◌, ◌*◌, ◌≤◌, ◌<◌, Bool, true, cond, List, [], ◌∷◌, ◌++◌, ◌≡◌, drop, get_or, length, take, IfSome}
+use Rattle.std.specs.List.{prefix_len}
+use Rattle.std.specs.Prelude.{ℕ, ◌+◌, ◌-◌, ◌*◌, ◌≤◌, ◌<◌, ◌==◌, Bool, true, cond, List, [], ◌∷◌, ◌++◌, ◌≡◌, drop, get_or, length, take, IfSome}
 use Rattle.std.specs.Prelude as std
 use Rattle.std.proofs.Math.Option.{Option, none, some}
 use Rattle.segment.specs.Grammar.{Step, padding_rule}
@@ -47,6 +48,10 @@ pub record Outcome (before : List Step) (earlier : ℕ) (steps : List Step) (not
 -- what a rule notes, from notes that are those of the steps before
 abbrev pub Answers : List Step → Notes → Notes → Type 0
 Answers steps notes after = (before : List Step) → Noted before notes → Outcome before notes.steps steps after
+
+-- how many NOPs stand at the start
+abbrev pub nops_in : List ℕ → ℕ
+nops_in left = prefix_len (λ octet. octet == 1) left
 
 -- each octet from a place up to another is a NOP, and one step: what follows them then decides
 abbrev pub NopsPassed : List ℕ → ℕ → ℕ → Type 0

@@ -5,7 +5,7 @@ ghost use Rattle.std.specs.Prelude.{◌≡◌, ◌≤◌, ◌<◌, None, Some, c
 ghost use Rattle.segment.specs.Grammar.{is_broken, option_rule, padding_rule};
 ghost use Rattle.segment.specs.Options.{is_wrong_length};
 ghost use Rattle.segment.specs.Kinds.{kind_number};
-ghost use Rattle.segment.specs.Internal.{AfterNops, Answers, Room};
+ghost use Rattle.segment.specs.Internal.{AfterNops, Answers, Room, nops_in};
 
 use super::Refusal;
 use super::kinds::{END, Kind, NOP};
@@ -29,17 +29,20 @@ pub fn padding_rule(header: &[u8], from: usize, notes: &mut Notes)
     option_rule(header, at, notes);
 }
 
-// The first place from `from` on that has no NOP, or the header's end. By `while`, so that the place is all that is counted: with a `for` over the
-// places the compiler counts from `from` as well, nine instructions at each option.
+// The first place from `from` on that has no NOP, or the header's end.
 fn after_nops(header: &[u8], from: usize) -> usize
     requires { from ≤ length header.now }
     ensures { AfterNops header.now from result }
 {
-    let mut at = from;
-    while at < header.len() && header[at] == NOP {
-        at += 1;
-    }
-    at
+    from + nops(&header[from..])
+}
+
+// How many NOPs stand at the start of `left`.
+fn nops(left: &[u8]) -> usize
+    ensures value { result ≡ nops_in left.now }
+    ensures within { result ≤ length left.now }
+{
+    left.iter().take_while(|octet| **octet == NOP).count()
 }
 
 // Reads one kind, length and body, and passes what is left to the padding rule: E4, E5, E6 in this order.
