@@ -12,7 +12,9 @@ use Rattle.serial.specs.declared.Stamp.{Stamp}
 use Rattle.octets.specs.Octets.{big_endian}
 use Rattle.segment.specs.Reading.{read_as, reading}
 use Rattle.std.specs.Prelude.{Some, None}
+use Rattle.segment.specs.SackBlocks.{held, padded}
 use Rattle.segment.specs.declared.Options.{Options}
+use Rattle.segment.proofs.HeldBlocks.{held_all}
 use Rattle.writer.specs.Writing.{block_room, fitting, mss_written, others_written, scale_written, segment_written, timestamps_written}
 use Rattle.writer.specs.declared.Ports.{Ports}
 use Rattle.writer.proofs.Lengths.{fits, length_written}
@@ -29,6 +31,10 @@ unfolding timestamps_written big_endian
 stamps_room true value echoed = refl
 stamps_room false value echoed = refl
 
+at_most_four : (active : Bool) → cond active 3 4 ≤ 4
+at_most_four true = omega arith
+at_most_four false = omega arith
+
 module _ (k : Connection) (ports : Ports) (clock : ℕ) where
   abbrev options : Options
   options = own_options k clock
@@ -44,12 +50,12 @@ module _ (k : Connection) (ports : Ports) (clock : ℕ) where
   blocks_room = stamps_room k.timestamping.active _ _
 
   -- the blocks that are read are all that the record shows
-  pub all_blocks : (own_segment k ports clock).options.blocks ≡ own_blocks k
+  pub all_blocks : held (own_segment k ports clock).options.blocks ≡ own_blocks k
   unfolding own_segment own_options
-  all_blocks = refl
+  all_blocks = held_all (own_blocks k) (omega (arith, blocks_most, at_most_four k.timestamping.active))
 
   -- and none is left out for want of room
-  pub none_left_out : fitting options ≡ options.blocks
+  pub none_left_out : fitting options ≡ held options.blocks
   unfolding own_segment
   none_left_out = fits options (omega (arith, blocks_room, ap length all_blocks, blocks_most))
 
@@ -69,7 +75,7 @@ module _ (k : Connection) (ports : Ports) (clock : ℕ) where
           mss = options.mss;
           scale = options.scale;
           permitted = options.permitted;
-          blocks = none_left_out i;
+          blocks = padded ((none_left_out ∙ all_blocks) i);
           timestamps = options.timestamps;
         };
         skipped = 0;

@@ -7,6 +7,7 @@ use lib.ListN.{drop, take}
 use Rattle.serial.specs.declared.Range.{Range}
 use Rattle.octets.specs.Octets.{big_endian}
 use Rattle.std.specs.Prelude.{Option, Some, None}
+use Rattle.segment.specs.SackBlocks.{held}
 use Rattle.segment.specs.declared.Segment.{Segment}
 use Rattle.segment.specs.declared.Timestamps.{Timestamps}
 use Rattle.writer.specs.Writing.{mss_written, sack_written, scale_written, timestamps_written}
@@ -75,11 +76,11 @@ module _ (k : Connection) (ports : Ports) (clock : ℕ) where
   no_stamps not = ap stamps not
 
   -- the first n ranges, if SACK is in force: n is at most 3 with timestamps, 4 without; else there are none
-  pub blocks_said : k.sack ≡ true → s.options.blocks ≡ take (cond k.timestamping.active 3 4) ranges
+  pub blocks_said : k.sack ≡ true → held s.options.blocks ≡ take (cond k.timestamping.active 3 4) ranges
   unfolding own_blocks
   blocks_said sack = all_blocks k ports clock ∙ ap (λ t. blocks t k.timestamping.active) sack
 
-  pub no_blocks : k.sack ≡ false → s.options.blocks ≡ []
+  pub no_blocks : k.sack ≡ false → held s.options.blocks ≡ []
   unfolding own_blocks
   no_blocks not = all_blocks k ports clock ∙ ap (λ t. blocks t k.timestamping.active) not
 

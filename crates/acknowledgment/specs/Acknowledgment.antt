@@ -2,6 +2,7 @@
 use Rattle.std.specs.Prelude.{ℕ, ◌/◌, ◌^◌, min, true, false, cond, List, [], eqb, ltb, take, Option, Some, None, Result, Ok, Err}
 use Rattle.serial.specs.Serial.{stamp_at}
 use Rattle.serial.specs.declared.Range.{Range}
+use Rattle.segment.specs.SackBlocks.{padded}
 use Rattle.segment.specs.declared.Flags.{Flags}
 use Rattle.segment.specs.declared.Options.{Options}
 use Rattle.segment.specs.declared.Timestamps.{Timestamps}
@@ -42,7 +43,7 @@ own_options k clock = record {
   mss = None;
   scale = None;
   permitted = false;
-  blocks = own_blocks k;
+  blocks = padded (own_blocks k);
   timestamps = own_timestamps k.timestamping clock;
 }
 

@@ -4,6 +4,7 @@
 
 ghost use Rattle.std.specs.Prelude.{◌≡◌, ◌≤◌, IfOk, take};
 ghost use Rattle.std.proofs.Common.{rules};
+ghost use Rattle.segment.specs.SackBlocks.{held};
 ghost use Rattle.receive.specs.Ranges.{ranges_of};
 ghost use Rattle.connection.specs.Operations.{acknowledged};
 ghost use Rattle.connection.specs.Record.{Sound};
@@ -99,7 +100,7 @@ fn own_timestamps(t: Timestamping, clock: u64) -> Option<Timestamps>
 // At most so many of the ranges.
 fn first_ranges(ranges: &[Range], most: usize) -> SackBlocks
     requires { most ≤ 4 }
-    ensures { result ≡ take most ranges.now }
+    ensures { held result ≡ take most ranges.now }
 {
     let mut blocks = SackBlocks::none();
     // Up to a constant besides, so that the compiler makes no loop of it.
@@ -112,7 +113,7 @@ fn first_ranges(ranges: &[Range], most: usize) -> SackBlocks
 // From the newest range on, three beside timestamps, and four without them.
 #[tactic(auto, unfolding(crate::specs::Acknowledgment::own_blocks))]
 fn own_blocks(k: Connection) -> SackBlocks
-    ensures { result ≡ own_blocks k }
+    ensures { held result ≡ own_blocks k }
 {
     if !k.sack {
         return SackBlocks::none();
@@ -121,7 +122,7 @@ fn own_blocks(k: Connection) -> SackBlocks
     first_ranges(k.receive.held.as_slice(), most)
 }
 
-#[tactic(auto, unfolding(crate::specs::Acknowledgment::own_options))]
+#[tactic(auto, using(segment::proofs::HeldBlocks::is_padded), unfolding(crate::specs::Acknowledgment::own_options))]
 fn own_options(k: Connection, clock: u64) -> Options
     ensures { result ≡ own_options k clock }
 {

@@ -21,6 +21,7 @@ use Rattle.receive.proofs.Coverage.{received_exactly}
 use Rattle.rto.specs.Calls as rto
 use Rattle.rto.specs.Timer.{is_accepted, sampled_by}
 use Rattle.rto.proofs.Refusal.{accepted_moves, refusal_leaves}
+use Rattle.segment.specs.SackBlocks.{held}
 use Rattle.segment.specs.declared.Segment.{Segment}
 use Rattle.send.specs.Send as send
 use Rattle.timestamps.specs.Timestamps as timestamps
@@ -43,7 +44,7 @@ pub record Takes (k : Connection) (clock : ℕ) (s : Segment) (a : Arrival) : Ty
   pub decision_is : a.decision ≡ record { number = 0; action = take }
   pub part_is : a.part ≡ new_part k.receive s.seq.0 s.len
   pub fin_is : a.fin ≡ fin_inside k.receive s.seq.0 s.len s.flags.fin
-  pub blocks_are : a.blocks ≡ cond k.sack (filter (send.is_listed a.connection.send) s.options.blocks) []
+  pub blocks_are : a.blocks ≡ cond k.sack (filter (send.is_listed a.connection.send) (held s.options.blocks)) []
   pub receive_is : a.connection.receive ≡ receive.taken k.receive a.part
   pub send_is : a.connection.send ≡ send.taken k.send (record { seq = s.seq; ack = s.ack; window = s.window })
   pub timestamping_is : a.connection.timestamping

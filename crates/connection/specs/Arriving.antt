@@ -5,6 +5,7 @@ use Rattle.serial.specs.declared.Range.{Range}
 use Rattle.receive.specs.Window.{fin_inside, new_part}
 use Rattle.receive.specs.declared.Part.{Part}
 use Rattle.segment.specs.Reading.{reading}
+use Rattle.segment.specs.SackBlocks.{held}
 use Rattle.segment.specs.declared.Segment.{Segment}
 use Rattle.connection.specs.declared.Arrival as declared
 use Rattle.connection.specs.declared.ArriveRefusal.{ArriveRefusal}
@@ -86,7 +87,7 @@ shown k (Ok a) = record {
   skipped = some a.skipped;
   part = a.part;
   fin = a.fin;
-  blocks = a.blocks;
+  blocks = held a.blocks;
   connection = a.connection;
 }
 shown k (Err why) = refusing k (arrive_refusal_number why) (arrive_refusal_place why)

@@ -6,6 +6,7 @@ use Rattle.receive.specs.Taking as receive
 use Rattle.receive.specs.Window.{new_part}
 use Rattle.rto.specs.Calls.{Call, run, sample}
 use Rattle.rto.specs.Timer.{rounded_up}
+use Rattle.segment.specs.SackBlocks.{held}
 use Rattle.segment.specs.declared.Segment.{Segment}
 use Rattle.segment.specs.declared.Timestamps.{Timestamps}
 use Rattle.send.specs.Send as send
@@ -50,4 +51,4 @@ record_after k clock s = record {
 
 -- the peer's SACK blocks in their order, only if SACK is in force, judged by the record after the take
 unfoldable pub listed : Connection → Segment → List Range
-listed after s = cond after.sack (filter (send.is_listed after.send) s.options.blocks) []
+listed after s = cond after.sack (filter (send.is_listed after.send) (held s.options.blocks)) []

@@ -1,5 +1,6 @@
 // The peer's SACK blocks that are listed.
 ghost use Rattle.std.specs.Prelude.{◌≡◌};
+ghost use Rattle.segment.specs.SackBlocks.{held};
 ghost use Rattle.connection.specs.Taking.{listed};
 
 use super::Connection;
@@ -9,7 +10,7 @@ impl Connection {
     // Those of the segment's blocks that are listed, in their order; none where SACK is not in force.
     #[tactic(auto, using(crate::proofs::Blocks::one_passes, crate::proofs::Blocks::one_fails), unfolding(crate::specs::Taking::listed))]
     pub(super) fn listed(self, s: &Segment) -> SackBlocks
-        ensures { result ≡ listed self s.now }
+        ensures { held result ≡ listed self s.now }
     {
         let mut listed = SackBlocks::none();
         if self.sack {

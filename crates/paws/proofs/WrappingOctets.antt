@@ -12,6 +12,7 @@ use Rattle.octets.proofs.ReadBack.{number_at_big_endian}
 use Rattle.segment.specs.Grammar.{is_broken, padding, padding_rule}
 use Rattle.segment.specs.Options as options
 use Rattle.segment.specs.Reading.{Answer, data_offset, options_read, reading, segment_of, steps_of}
+use Rattle.segment.specs.SackBlocks.{padded}
 use Rattle.segment.specs.declared.Segment.{Segment}
 use Rattle.segment.proofs.Readable.{Passed, read_if}
 use Rattle.paws.specs.History.{Sent}
@@ -61,7 +62,7 @@ module _ (p : Sent) (small : p.len ≤ 65503) where
           mss = None;
           scale = None;
           permitted = false;
-          blocks = [];
+          blocks = padded [];
           timestamps = Some (record { value = record { 0 = number_at_big_endian 3 (p.stamp % 2 ^ 32) [] i }; echoed = record { 0 = 0 } });
         };
         skipped = 0;

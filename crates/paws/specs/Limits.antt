@@ -1,6 +1,7 @@
 -- A worked case at each limit of the premises. The SYN's true number is 2^32 + 4999, so that its SEQ is 4999; the record is opened under the
 -- field-station profile, from fields read before, at clock 100, with a receive shift of 3.
 use Rattle.std.specs.Prelude.{true, false, List, [], ◌∷◌, ℕ, ◌+◌, ◌-◌, ◌^◌, None}
+use Rattle.segment.specs.SackBlocks.{padded}
 use Rattle.segment.specs.declared.Segment.{Segment}
 use Rattle.paws.specs.History.{Sent}
 
@@ -52,7 +53,7 @@ reset = record {
     mss = None;
     scale = None;
     permitted = false;
-    blocks = [];
+    blocks = padded [];
     timestamps = None;
   };
   skipped = 0;

@@ -1,5 +1,6 @@
 -- The segments of the worked cases: their octets, and the fields that are read from them.
 use Rattle.std.specs.Prelude.{Bool, true, false, cond, not, List, ℕ, ◌+◌, ◌%◌, ◌^◌, None, Option, Some, []}
+use Rattle.segment.specs.SackBlocks.{padded}
 use Rattle.segment.specs.declared.Segment.{Segment}
 use Rattle.connection.specs.Cases as cases
 use Rattle.connection.specs.declared.Setup.{Setup}
@@ -32,7 +33,7 @@ fields syn scale seq value payload = record {
     mss = None;
     scale = scale;
     permitted = false;
-    blocks = [];
+    blocks = padded [];
     timestamps = Some (record { value = record { 0 = value }; echoed = record { 0 = 0 } });
   };
   skipped = 0;

@@ -1,48 +1,15 @@
--- The blocks of a SACK option: in the array that holds them, and in the segment. Assumes nothing.
+-- The blocks of a SACK option in the segment. Assumes nothing.
 use mathlib.Core.List.{List, [], ◌∷◌, ◌++◌}
-use mathlib.Core.Path.{◌≡◌, refl, sym, ap, ◌∙◌}
-use Prim.Native.Nat.{ℕ, zero, suc, ◌+◌, ◌-◌, ◌*◌, ◌≤◌, ◌<◌}
+use mathlib.Core.Path.{◌≡◌, refl, ap, ◌∙◌}
+use Prim.Native.Nat.{ℕ, zero, suc, ◌+◌, ◌*◌, ◌≤◌}
 use native.Mathlib.Nat.{add_assoc}
 use native.Mathlib.Omega.{arith}
-use lib.ListN.{length, length-append, replicate, set, take}
-use lib.Seq.{take_at}
+use lib.ListN.{length, take}
 use Rattle.octets.specs.Octets.{number_at}
-use Rattle.serial.specs.Serial.{range}
 use Rattle.serial.specs.declared.Range.{Range}
 use Rattle.segment.specs.Internal.{Stands}
 use Rattle.segment.specs.Options.{block_at, blocks_from}
-use Rattle.segment.specs.SackBlocks.{Padded, held, padded}
-use Rattle.segment.specs.declared.sack_blocks.SackBlocks.TheInside.{Inside}
 use Rattle.segment.proofs.Standing.{number_there}
-
--- a list with unused places after it is an array that holds the list
-module _ (a : Inside) (blocks : List Range) (e : a ≡ padded blocks) where
-  pub holds : held a ≡ blocks
-  holds = ap held e ∙ take_at blocks (replicate (4 - length blocks) (range 0 0)) (length blocks) refl
-
-  pub is_padded : length blocks ≤ 4 → Padded a
-  is_padded few = record { few = rw e few; form = e ∙ ap padded (sym holds) }
-
--- the first unused place taken
-set_unused : {A : Type 0} (l : List A) (k : ℕ) (u x : A) → set (l ++ replicate (suc k) u) (length l) x ≡ (l ++ (x ∷ [])) ++ replicate k u
-set_unused [] k u x = refl
-set_unused (y ∷ l) k u x = ap (λ r. y ∷ r) (set_unused l k u x)
-
-module _ (a : Inside) (h : Padded a) where
-  pub count_is : a.count ≡ length (held a)
-  count_is = ap (λ (i : Inside). i.count) h.form
-
-  -- one more block where there is room
-  pub pushed : (x : Range) → a.count < 4 → record { blocks = set a.blocks a.count x; count = a.count + 1 } ≡ padded (held a ++ (x ∷ []))
-  pushed x room =
-      let l : List Range = held a in
-      let longer : a.count + 1 ≡ length (l ++ (x ∷ [])) = omega (arith, count_is, length-append l (x ∷ [])) in
-      let left : 4 - length l ≡ suc (4 - length (l ++ (x ∷ []))) = omega (arith, count_is, longer, room) in
-      let blocks : set a.blocks a.count x ≡ (l ++ (x ∷ [])) ++ replicate (4 - length (l ++ (x ∷ []))) (range 0 0) =
-      (λ i. set (h.form i).blocks (count_is i) x)
-      ∙ ap (λ (k : ℕ). set (l ++ replicate k (range 0 0)) (length l) x) left
-      ∙ set_unused l (4 - length (l ++ (x ∷ []))) (range 0 0) x in
-      λ i. record { blocks = blocks i; count = longer i }
 
 -- the first n of a list with one more, by the first n of the list
 pub take_again : {A : Type 0} (n : ℕ) (l rest : List A) → take n (take n l ++ rest) ≡ take n (l ++ rest)

@@ -7,6 +7,7 @@ pub mod FoundOption
 mod Gathering
 pub mod HeaderRead
 pub mod Held
+pub mod HeldBlocks
 pub mod Induction
 pub mod Inside
 mod Judging

@@ -15,10 +15,12 @@ use Rattle.octets.proofs.ReadBack.{number_at_big_endian}
 use Rattle.segment.specs.Grammar.{Step, whole}
 use Rattle.segment.specs.Options.{Found, blocks_from, blocks_of, fault_at, found, is_found, mss_of, nothing, option_of, options_of, scale_of, timestamps_of}
 use Rattle.segment.specs.Reading.{Answer, read_as, reading, segment_of, steps_of}
+use Rattle.segment.specs.SackBlocks.{held, padded}
 use Rattle.segment.specs.declared.Options.{Options}
 use Rattle.segment.specs.declared.Segment.{Segment}
 use Rattle.segment.proofs.Faults.{Among, RightLength, judged_only, mss, window_scale, sack_permitted, one_block, two_blocks, three_blocks, four_blocks, timestamps, second_time}
 use Rattle.segment.proofs.FoundOption.{first_option, nothing_if}
+use Rattle.segment.proofs.HeldBlocks.{held_found}
 use Rattle.segment.proofs.Numbers.{faultless}
 use Rattle.segment.proofs.Readable.{fields_are}
 
@@ -88,18 +90,19 @@ module _ (s : List ℕ) (w : Segment) (e : reading s ≡ read_as w) where
   -- one to four blocks, in their order
   pub blocks_value : (at : ℕ) (r : Range) (rs : List Range) → length rs ≤ 3
       → Memᴰ (whole at (5 ∷ (8 * length (r ∷ rs) + 2) ∷ edges_of (r ∷ rs))) (steps_of s)
-      → w.options.blocks ≡ r ∷ rs
+      → held w.options.blocks ≡ r ∷ rs
   unfolding options_of big_endian number_at blocks_from
   blocks_value at a rs few m = go rs few m
     where
       said : (octets : List ℕ) → get_or octets 0 0 ≡ 5 → RightLength 5 (length octets) → Memᴰ (whole at octets) (steps_of s)
-          → w.options.blocks ≡ blocks_of (found at octets)
+          → held w.options.blocks ≡ blocks_of (found at octets)
       said octets five right m =
-          ap (λ (o : Options). o.blocks) options_are
-          ∙ ap (λ (f : Found). blocks_of f) (rw five at (the_option at octets (rw five right) m))
+          ap (λ (o : Options). held o.blocks) options_are
+          ∙ ap (λ (f : Found). held (padded (blocks_of f))) (rw five at (the_option at octets (rw five right) m))
+          ∙ held_found (found at octets)
 
       go : (rs : List Range) → length rs ≤ 3 → Memᴰ (whole at (5 ∷ (8 * length (a ∷ rs) + 2) ∷ edges_of (a ∷ rs))) (steps_of s)
-          → w.options.blocks ≡ a ∷ rs
+          → held w.options.blocks ≡ a ∷ rs
       go [] few m = said _ refl one_block m ∙ (λ i. block_back a i ∷ [])
       go (b ∷ []) few m = said _ refl two_blocks m ∙ (λ i. block_back a i ∷ block_back b i ∷ [])
       go (b ∷ c ∷ []) few m = said _ refl three_blocks m ∙ (λ i. block_back a i ∷ block_back b i ∷ block_back c i ∷ [])
@@ -122,9 +125,9 @@ module _ (s : List ℕ) (w : Segment) (e : reading s ≡ read_as w) where
   unfolding options_of
   not_permitted none = ap (λ (o : Options). o.permitted) options_are ∙ ap is_found (is_none 4 none)
 
-  pub no_blocks : (Among 5 (steps_of s) → ⊥) → w.options.blocks ≡ []
+  pub no_blocks : (Among 5 (steps_of s) → ⊥) → held w.options.blocks ≡ []
   unfolding options_of
-  no_blocks none = ap (λ (o : Options). o.blocks) options_are ∙ ap blocks_of (is_none 5 none)
+  no_blocks none = ap (λ (o : Options). held o.blocks) options_are ∙ ap (λ (f : Found). held (padded (blocks_of f))) (is_none 5 none)
 
   pub no_timestamps : (Among 8 (steps_of s) → ⊥) → w.options.timestamps ≡ None
   unfolding options_of

@@ -12,6 +12,7 @@ use lib.Seq.{drop_at, take_at}
 use borrow.Author.Tests.{le-ltb, ne_eqb}
 use Rattle.segment.specs.Grammar.{Step, is_broken, nop, option_rule_lem, padding_none, padding_rule_lem, padding_rule, whole}
 use Rattle.segment.specs.Options.{Found, blocks_of, fault_at, fault_in, found, is_found, is_known, is_repeated, is_wrong_length, mss_of, option_in, option_of, options_of, scale_of, skipped_in, stands_in, timestamps_of}
+use Rattle.segment.specs.SackBlocks.{padded}
 use Rattle.segment.specs.declared.Options.{Options}
 use Rattle.segment.proofs.Gathering.{new_kind, option_after, skipped_after}
 use Rattle.segment.proofs.Judging.{SameOptions, no_option}
@@ -45,7 +46,7 @@ with_option o octets =
       mss = cond (eqb kind 2) (mss_of f) o.mss;
       scale = cond (eqb kind 3) (scale_of f) o.scale;
       permitted = cond (eqb kind 4) (is_found f) o.permitted;
-      blocks = cond (eqb kind 5) (blocks_of f) o.blocks;
+      blocks = cond (eqb kind 5) (padded (blocks_of f)) o.blocks;
       timestamps = cond (eqb kind 8) (timestamps_of f) o.timestamps;
     }
 
@@ -68,7 +69,7 @@ module _ (before : List Step) (at : ℕ) (octets : List ℕ) (e : is_repeated be
       let mss = field_after mss_of 2 refl in
       let scale = field_after scale_of 3 refl in
       let permitted = field_after is_found 4 refl in
-      let blocks = field_after blocks_of 5 refl in
+      let blocks = field_after (λ f. padded (blocks_of f)) 5 refl in
       let timestamps = field_after timestamps_of 8 refl in
       λ i. record { mss = mss i; scale = scale i; permitted = permitted i; blocks = blocks i; timestamps = timestamps i }
 
@@ -97,7 +98,7 @@ same_said a b e i = record {
   mss = mss_of (e.found_same (2 ∷ []) i);
   scale = scale_of (e.found_same (3 ∷ []) i);
   permitted = is_found (e.found_same (4 ∷ []) i);
-  blocks = blocks_of (e.found_same (5 ∷ []) i);
+  blocks = padded (blocks_of (e.found_same (5 ∷ []) i));
   timestamps = timestamps_of (e.found_same (8 ∷ []) i);
 }
 

@@ -3,21 +3,22 @@ use mathlib.Core.Bool.{Bool, true, false, cond, ◌||◌}
 use mathlib.Core.List.{List, [], ◌∷◌, ◌++◌}
 use mathlib.Core.Option.{Option, none, some, Option-elim, some-injective, some-ne-none}
 use mathlib.Core.Path.{◌≡◌, refl, sym, ap, subst, ◌∙◌}
-use Prim.Native.Nat.{ℕ, ◌-◌, ◌*◌, ◌/◌, ◌≤◌, ◌<◌}
+use Prim.Native.Nat.{ℕ, ◌*◌, ◌≤◌, ◌<◌}
 use native.Mathlib.Omega.{arith}
 use lib.Dec.{eqb, ltb}
-use lib.ListN.{get_or, length, length-take}
+use lib.ListN.{get_or, length}
 use Rattle.std.specs.Prelude.{Err}
 use borrow.Author.Tests.{eqb-false, le-ltb, lt-ltb, ltb-false, ne_eqb}
 use Rattle.laws.proofs.Choices.{neither}
 use Rattle.segment.specs.Grammar.{Step, broken, end, nop, whole}
-use Rattle.segment.specs.Options.{Fault, Found, block_at, blocks_from, blocks_of, fault_at, fault_in, found, is_repeated, is_wrong_length, nothing, option_in, option_of, options_of, skipped_in, stands_in, step_place, up_to_fault}
+use Rattle.segment.specs.Options.{Fault, fault_at, fault_in, is_repeated, is_wrong_length, nothing, option_in, options_of, skipped_in, stands_in, step_place, up_to_fault}
 use Rattle.segment.specs.Reading.{Answer, Report, counted_steps, data_offset, flags_of, found_option, matching, number_of, number_positive, options_read, read_as, reading, refused, refused_at, reported, segment_of, shown_answer, steps_of, steps_taken, with_fields}
 use Rattle.segment.specs.Readable.{Readable}
 use Rattle.segment.specs.declared.Flags.{Flags}
 use Rattle.segment.specs.declared.Options.{Options}
 use Rattle.segment.specs.declared.Refusal.{Refusal}
 use Rattle.segment.specs.declared.Segment.{Segment}
+use Rattle.segment.proofs.HeldBlocks.{held_few}
 
 -- equal reports have equal answers
 pub answer_is : {a b : Report} → a ≡ b → a.answer ≡ b.answer
@@ -148,22 +149,12 @@ module _ (s : List ℕ) (e : (reading s).number ≡ 0) where
       let options = ap (λ (a : Answer Segment). a.number) (answered_by_options s passed) in
       read_if s passed (no_fault (steps_of s) (sym options ∙ e))
 
--- however long a SACK option is
-four_blocks : (steps : List Step) → length (options_of steps).blocks ≤ 4
-unfolding options_of
-four_blocks steps = go (option_of 5 steps)
-  where
-    go : (f : Found) → length (blocks_of f) ≤ 4
-    go nothing = omega arith
-    go (found at octets) = omega (arith, length-take 4 (block_at octets 2 ∷ blocks_from ((length octets - 10) / 8) octets 10))
-
 flag_most : (flag : Bool) → cond flag 1 0 ≤ 1
 flag_most true = omega arith
 flag_most false = omega arith
 
 -- what holds of the fields, whatever the options are
-module _ (s : List ℕ) (end skipped : ℕ) (options : Options) (short : length s ≤ 65535) (least : 20 ≤ end) (most : end ≤ length s)
-    (blocks_most : length options.blocks ≤ 4) where
+module _ (s : List ℕ) (end skipped : ℕ) (options : Options) (short : length s ≤ 65535) (least : 20 ≤ end) (most : end ≤ length s) where
   fields_readable : Readable s (segment_of s end skipped options)
   unfolding segment_of
   fields_readable =
@@ -176,7 +167,7 @@ module _ (s : List ℕ) (end skipped : ℕ) (options : Options) (short : length 
         payload_rest = omega arith;
         len_is = refl;
         len_most = omega (arith, flag_most flags.syn, flag_most flags.fin);
-        blocks_most = blocks_most;
+        blocks_most = held_few options.blocks;
       }
 
 -- a segment that is read
@@ -195,7 +186,7 @@ module _ (s : List ℕ) (w : Segment) (e : reading s ≡ read_as w) where
   readable =
       let p = passed s zero_number in
       subst (Readable s) (sym fields_are)
-      (fields_readable s (4 * data_offset s) _ _ p.short (omega (arith, p.offset_least)) p.offset_most (four_blocks (steps_of s)))
+      (fields_readable s (4 * data_offset s) _ _ p.short (omega (arith, p.offset_least)) p.offset_most)
 
 -- An option is found in what is read, and none in what is refused.
 module _ (s kinds : List ℕ) where

@@ -8,6 +8,7 @@ use Rattle.octets.specs.Octets.{number_at}
 use Rattle.serial.specs.Serial.{range}
 use Rattle.serial.specs.declared.Range.{Range}
 use Rattle.segment.specs.Grammar.{Step, nop, end, whole, broken}
+use Rattle.segment.specs.SackBlocks.{padded}
 use Rattle.segment.specs.declared.Options.{Options}
 use Rattle.segment.specs.declared.Timestamps.{Timestamps}
 
@@ -147,6 +148,6 @@ options_of steps = record {
   mss = mss_of (option_of 2 steps);
   scale = scale_of (option_of 3 steps);
   permitted = is_found (option_of 4 steps);
-  blocks = blocks_of (option_of 5 steps);
+  blocks = padded (blocks_of (option_of 5 steps));
   timestamps = timestamps_of (option_of 8 steps);
 }

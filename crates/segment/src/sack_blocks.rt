@@ -1,8 +1,8 @@
 // The blocks of a SACK option.
-ghost use Rattle.std.specs.Prelude.{◌≡◌, ◌≤◌, [], ◌∷◌, ◌++◌, length, take};
+ghost use Rattle.std.specs.Prelude.{◌≡◌, ◌-◌, ◌≤◌, drop, length, replicate};
+ghost use Rattle.serial.specs.Serial.{range};
 
 use serial::{Range, Seq};
-use std::marker::Model;
 
 pub const MOST: usize = 4;
 
@@ -17,28 +17,17 @@ const UNUSED: Range = Range {
 pub struct SackBlocks {
     blocks: [Range; MOST],
     count: usize,
-}
-
-impl Model for SackBlocks {
-    ghost use Rattle.std.specs.Prelude.{List};
-    ghost use Rattle.serial.specs.declared.Range.{Range};
-
-    ghost Value = { List Range };
-
-    ghost use Rattle.segment.specs.SackBlocks.{Padded, held, padded, padded_held};
-
-    ghost view = { held };
-
-    ghost invariant = { Padded };
-
-    ghost inverse = { padded };
-
-    ghost inverse_ok = { padded_held };
+    ghost whole: { length blocks ≡ 4 },
+    ghost few: { count ≤ 4 },
+    ghost padded: { drop count blocks ≡ replicate (4 - count) (range 0 0) },
 }
 
 impl SackBlocks {
+    ghost use Rattle.std.specs.Prelude.{◌≡◌, ◌≤◌, [], ◌∷◌, ◌++◌, length, take};
+    ghost use Rattle.segment.specs.SackBlocks.{held};
+
     pub fn none() -> SackBlocks
-        ensures { result ≡ [] }
+        ensures { held result ≡ [] }
     {
         SackBlocks {
             blocks: [UNUSED; MOST],
@@ -47,21 +36,21 @@ impl SackBlocks {
     }
 
     pub fn len(&self) -> usize
-        ensures { result ≡ length self.now }
+        ensures { result ≡ length (held self.now) }
     {
         self.count
     }
 
     pub fn as_slice(&self) -> &[Range]
-        ensures blocks { result.now ≡ self.now }
-        ensures few { length self.now ≤ 4 }
+        ensures blocks { result.now ≡ held self.now }
+        ensures few { length (held self.now) ≤ 4 }
     {
         &self.blocks[..self.count]
     }
 
     // One more block, after the others: where there are four already, it is left out.
     pub fn push(&mut self, block: Range)
-        ensures { self.new ≡ take 4 (self.old ++ block ∷ []) }
+        ensures { held self.new ≡ take 4 (held self.old ++ block ∷ []) }
     {
         if self.count < MOST {
             self.blocks[self.count] = block;
@@ -70,7 +59,7 @@ impl SackBlocks {
     }
 
     pub fn first(self, n: usize) -> SackBlocks
-        ensures { result ≡ take n self }
+        ensures { held result ≡ take n (held self) }
     {
         let count = self.count.min(n);
         let mut blocks = self.blocks;

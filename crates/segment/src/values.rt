@@ -3,6 +3,7 @@ ghost use Rattle.std.specs.Prelude.{List, ◌≡◌, ◌≤◌};
 ghost use Rattle.segment.specs.Grammar.{Step};
 ghost use Rattle.segment.specs.Options.{Found, block_at, blocks_of, mss_of, options_of, scale_of, timestamps_of};
 ghost use Rattle.segment.specs.Internal.{Noted, StandAll, StandsIf, place_of};
+ghost use Rattle.segment.specs.SackBlocks.{held};
 
 use super::kinds::Kind;
 use super::notes::Notes;
@@ -50,7 +51,7 @@ fn timestamps(segment: &[u8], place: Option<u8>) -> Option<Timestamps>
 }
 
 fn sack_blocks(segment: &[u8], place: Option<u8>) -> SackBlocks
-    ensures { (f : Found) → place ≡ place_of f → StandsIf segment.now 5 10 f → result ≡ blocks_of f }
+    ensures { (f : Found) → place ≡ place_of f → StandsIf segment.now 5 10 f → held result ≡ blocks_of f }
 {
     let Some(place) = place else {
         return SackBlocks::none();

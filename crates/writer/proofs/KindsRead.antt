@@ -13,8 +13,10 @@ use Rattle.octets.proofs.ReadBack.{number_at_big_endian}
 use Rattle.std.specs.Prelude.{Option, Some, None}
 use Rattle.segment.specs.Grammar.{Step}
 use Rattle.segment.specs.Options.{Found, blocks_of, found, is_found, is_repeated, is_wrong_length, lengths_of, mss_of, nothing, option_of, options_of, scale_of, stands_in, timestamps_of}
+use Rattle.segment.specs.SackBlocks.{held, padded}
 use Rattle.segment.specs.declared.Options.{Options}
 use Rattle.segment.specs.declared.Timestamps.{Timestamps}
+use Rattle.segment.proofs.HeldBlocks.{held_found}
 use Rattle.segment.proofs.OptionsRead.{Reads, option_read}
 use Rattle.writer.specs.Writing.{blocks_written, stamps_written}
 use Rattle.writer.proofs.BlockLists.{sack_back}
@@ -31,7 +33,7 @@ abbrev pub with_permitted : Options → Bool → Options
 with_permitted o x = record { mss = o.mss; scale = o.scale; permitted = x; blocks = o.blocks; timestamps = o.timestamps }
 
 abbrev pub with_blocks : Options → List Range → Options
-with_blocks o x = record { mss = o.mss; scale = o.scale; permitted = o.permitted; blocks = x; timestamps = o.timestamps }
+with_blocks o x = record { mss = o.mss; scale = o.scale; permitted = o.permitted; blocks = padded x; timestamps = o.timestamps }
 
 abbrev pub with_timestamps : Options → Option Timestamps → Options
 with_timestamps o x = record { mss = o.mss; scale = o.scale; permitted = o.permitted; blocks = o.blocks; timestamps = x }
@@ -56,9 +58,9 @@ module _ (before : List Step) where
   unfolding options_of is_repeated stands_in
   permitted_new e = e
 
-  sack_new : (options_of before).blocks ≡ [] → is_repeated before 5 ≡ false
+  sack_new : held (options_of before).blocks ≡ [] → is_repeated before 5 ≡ false
   unfolding options_of is_repeated stands_in
-  sack_new = not_found blocks_of [] (λ at octets e. cc) (option_of 5 before)
+  sack_new e = not_found blocks_of [] (λ at octets e. cc) (option_of 5 before) (sym (held_found (option_of 5 before)) ∙ e)
 
   timestamps_new : (options_of before).timestamps ≡ None → is_repeated before 8 ≡ false
   unfolding options_of is_repeated stands_in
@@ -101,7 +103,7 @@ module _ {o : Options} {rest : List ℕ} {o' : Options} where
       }) then)
 
   -- one to four blocks
-  pub sack_read : (b : Range) (bs : List Range) → length bs ≤ 3 → o.blocks ≡ []
+  pub sack_read : (b : Range) (bs : List Range) → length bs ≤ 3 → held o.blocks ≡ []
       → Reads (with_blocks o (b ∷ bs)) rest o'
       → Reads o (5 ∷ (8 * length (b ∷ bs) + 2) ∷ (blocks_written (b ∷ bs) ++ rest)) o'
   unfolding stands_in

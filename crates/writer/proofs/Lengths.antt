@@ -9,6 +9,7 @@ use lib.Seq.{take_all}
 use Rattle.std.specs.Prelude.{Option, Some, None, is_some}
 use Rattle.serial.specs.declared.Range.{Range}
 use Rattle.octets.specs.Octets.{big_endian}
+use Rattle.segment.specs.SackBlocks.{held}
 use Rattle.segment.specs.declared.Options.{Options}
 use Rattle.segment.specs.declared.Timestamps.{Timestamps}
 use Rattle.writer.specs.Writing.{block_room, blocks_written, fitting, header_written, mss_written, options_written, others_written, sack_written, scale_written, timestamps_written, written}
@@ -90,16 +91,16 @@ module _ (o : Options) where
 
   pub fitting_most : length (fitting o) ≤ block_room (length (others_written o))
   unfolding fitting
-  fitting_most = omega (arith, length-take (block_room (length (others_written o))) o.blocks)
+  fitting_most = omega (arith, length-take (block_room (length (others_written o))) (held o.blocks))
 
   -- and they are four at most
   pub few_fit : length (fitting o) ≤ 4
   few_fit = omega (arith, fitting_most)
 
   -- where all blocks fit, none is left out
-  pub fits : length o.blocks ≤ block_room (length (others_written o)) → fitting o ≡ o.blocks
+  pub fits : length (held o.blocks) ≤ block_room (length (others_written o)) → fitting o ≡ held o.blocks
   unfolding fitting
-  fits few = take_all _ o.blocks few
+  fits few = take_all _ (held o.blocks) few
 
   pub length_parts : length (options_written o) ≡ length (others_written o) + length (sack_written (fitting o))
   unfolding options_written

@@ -10,6 +10,7 @@ use Rattle.std.specs.Prelude.{Some, None}
 use Rattle.serial.specs.declared.Range.{Range}
 use Rattle.octets.specs.Octets.{big_endian, number_at}
 use Rattle.octets.proofs.ReadBack.{length_big_endian, number_at_big_endian, number_at_within}
+use Rattle.segment.specs.SackBlocks.{held}
 use Rattle.segment.specs.declared.Options.{Options}
 use Rattle.segment.specs.declared.Timestamps.{Timestamps}
 use Rattle.writer.specs.Writing.{block_room, blocks_written, fitting, header_written, mss_written, options_written, others_written, sack_written, scale_written, timestamps_written, written}
@@ -111,12 +112,12 @@ module _ (o : Options) where
   from_20 h = refl
 
   -- the blocks that are written are the first, as many as there is room for in 40 octets
-  pub first_blocks : fitting o ≡ take (length (fitting o)) o.blocks
+  pub first_blocks : fitting o ≡ take (length (fitting o)) (held o.blocks)
   unfolding fitting
   first_blocks =
-      sym (take-length (fitting o)) ∙ take-take (length (fitting o)) (block_room (length (others_written o))) o.blocks (fitting_most o)
+      sym (take-length (fitting o)) ∙ take-take (length (fitting o)) (block_room (length (others_written o))) (held o.blocks) (fitting_most o)
 
-  pub no_more_fit : length (fitting o) < length o.blocks → 40 < length (others_written o) + (4 + 8 * (length (fitting o) + 1))
+  pub no_more_fit : length (fitting o) < length (held o.blocks) → 40 < length (others_written o) + (4 + 8 * (length (fitting o) + 1))
   unfolding fitting
   no_more_fit left =
-      omega (arith, length-take (block_room (length (others_written o))) o.blocks, (aligned_others o).most)
+      omega (arith, length-take (block_room (length (others_written o))) (held o.blocks), (aligned_others o).most)

@@ -8,8 +8,11 @@ use lib.ListN.{length}
 use Rattle.serial.specs.declared.Range.{Range}
 use Rattle.std.specs.Prelude.{Option, Some, None}
 use Rattle.segment.specs.Options.{option_in, options_of}
+use Rattle.segment.specs.SackBlocks.{held}
 use Rattle.segment.specs.declared.Options.{Options}
 use Rattle.segment.specs.declared.Timestamps.{Timestamps}
+use Rattle.segment.specs.declared.sack_blocks.SackBlocks.{SackBlocks}
+use Rattle.segment.proofs.HeldBlocks.{is_padded}
 use Rattle.segment.proofs.OptionsRead.{Reads, none_read, nop_read}
 use Rattle.writer.specs.Writing.{fitting, mss_written, options_written, others_written, sack_written, scale_written, timestamps_written}
 use Rattle.writer.proofs.KindsRead.{mss_read, permitted_read, sack_read, scale_read, timestamps_read, with_blocks, with_mss, with_permitted, with_scale, with_timestamps}
@@ -44,9 +47,11 @@ module _ {o : Options} {rest : List ℕ} {o' : Options} where
     timestamps_part true (Some t) then = permitted_read plain (timestamps_read t new then)
 
 -- the last part
-sack_part : {o : Options} (bs : List Range) → length bs ≤ 4 → o.blocks ≡ [] → Reads o (sack_written bs) (with_blocks o bs)
+sack_part : {o : Options} (bs : List Range) → length bs ≤ 4 → held o.blocks ≡ [] → Reads o (sack_written bs) (with_blocks o bs)
 unfolding sack_written
-sack_part {o} [] few new = subst (λ (x : List Range). Reads o [] (with_blocks o x)) new none_read
+sack_part {o} [] few new =
+    subst (λ (x : SackBlocks). Reads o [] (record { mss = o.mss; scale = o.scale; permitted = o.permitted; blocks = x; timestamps = o.timestamps }))
+    (is_padded o.blocks [] new) none_read
 sack_part {o} (b ∷ bs) few new = nop_read (nop_read (rw append-nil at (sack_read {o = o} {rest = []} b bs (omega arith) new none_read)))
 
 pub options_back : (o : Options) → Reads (options_of []) (options_written o) (with_blocks o (fitting o))

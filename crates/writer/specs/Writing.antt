@@ -5,6 +5,7 @@ use Rattle.serial.specs.declared.Range.{Range}
 use Rattle.octets.specs.Octets.{big_endian, stored}
 use Rattle.refusals.specs.Number.{number_of}
 use Rattle.segment.specs.Reading.{len_of}
+use Rattle.segment.specs.SackBlocks.{held, padded}
 use Rattle.segment.specs.declared.Flags.{Flags}
 use Rattle.segment.specs.declared.Options.{Options}
 use Rattle.segment.specs.declared.Segment.{Segment}
@@ -66,7 +67,7 @@ block_room others = (40 - others - 4) / 8
 
 -- the blocks that are written: as many of the first as fit
 unfoldable pub fitting : Options → List Range
-fitting o = take (block_room (length (others_written o))) o.blocks
+fitting o = take (block_room (length (others_written o))) (held o.blocks)
 
 unfoldable pub options_written : Options → List ℕ
 options_written o = others_written o ++ sack_written (fitting o)
@@ -89,7 +90,7 @@ segment_written h o = record {
     mss = o.mss;
     scale = o.scale;
     permitted = o.permitted;
-    blocks = fitting o;
+    blocks = padded (fitting o);
     timestamps = o.timestamps;
   };
   skipped = 0;

@@ -10,7 +10,7 @@ use Rattle.segment.proofs.find_option.Goals as goal
 
 pub slice_bounds-first_listed-end : goal.slice_bounds-first_listed-end
 slice_bounds-first_listed-end c =
-    rw c.in-Ok.whole-is (readable c.args.segment.now c.in-Ok.whole (sym (answer_is c.read-reading.ensures) ∙ ap shown_answer c.in-Ok.is)).start_most
+    (readable c.args.segment.now c.in-Ok.whole (sym (answer_is c.read-reading.ensures) ∙ ap shown_answer c.in-Ok.is)).start_most
 
 pub returns-in-Ok : goal.returns-in-Ok
 returns-in-Ok c =
@@ -21,7 +21,7 @@ returns-in-Ok c =
     let read = sym (answer_is c.read-reading.ensures) ∙ ap shown_answer c.in-Ok.is in
     rw (found_some s kinds whole read)
     (part_of_start c.first_listed.result a.segment.ref_ptr (option_in (matching kinds) (steps_of s))
-    (rw (options_there s whole.payload.start (start_is s whole read)) at (rw c.in-Ok.whole-is at c.first_listed.ensures)))
+    (rw (options_there s whole.payload.start (start_is s whole read)) at c.first_listed.ensures))
 
 pub returns-in-Err : goal.returns-in-Err
 returns-in-Err c =
