@@ -37,8 +37,8 @@ pub fn tsval_of(s: &Segment) -> Option<Stamp>
 fn expected_samples(outstanding: u32, mss: u16) -> u32
     ensures { result ≡ expected_samples outstanding mss }
 {
-    let two_segments = 2 * u64::from(mss.max(MIN_MSS));
-    u64::from(outstanding).div_ceil(two_segments).clamp(1, 16) as u32
+    let two_segments = 2 * u32::from(mss.max(MIN_MSS));
+    outstanding.div_ceil(two_segments).clamp(1, 16)
 }
 
 impl Connection {
